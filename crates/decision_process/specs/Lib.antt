@@ -1,0 +1,9 @@
+pub mod Process
+pub mod Plans
+pub mod Policies
+pub mod Least
+pub mod Enclosing
+pub mod Rounded
+pub mod Balanced
+pub mod Levels
+pub mod Laws

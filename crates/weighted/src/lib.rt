@@ -1,0 +1,2 @@
+//! Lists of weighted items and their expectations, over unbounded whole numbers.
+#![tactic(auto)]
