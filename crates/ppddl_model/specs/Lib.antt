@@ -1,1 +1,10 @@
 pub mod Codes
+pub mod State
+pub mod Objects
+pub mod Truth
+pub mod Denominator
+pub mod Outcomes
+pub mod Costs
+pub mod Steps
+pub mod Changing
+pub mod examples
