@@ -2,6 +2,10 @@
 //! micro-units (a millionth of a unit).
 #![tactic(auto)]
 
+pub mod divisors;
+
+pub use divisors::{divisor_laws, gcd, lcm_within};
+
 /// A probability, as a fraction in lowest terms.
 ///
 /// As read from a text, `num` is at most `den`, and `den` is from 1 to 10^9.

@@ -1,0 +1,6 @@
+pub mod Forms
+pub mod Ahead
+pub mod Stored
+pub mod Pieces
+pub mod View
+pub mod Reading

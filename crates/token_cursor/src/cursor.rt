@@ -1,0 +1,189 @@
+//! The cursor: a place between two tokens of a text.
+
+ghost use Rattle.std.specs.Prelude.{◌≡◌, ◌<◌, ◌+◌, ◌^◌, length, All, true, IfOk, OnOk};
+ghost use Rattle.ppddl_model.specs.declared.refusal.TextRefusal.TheVariants.{At};
+ghost use Rattle.ppddl_lex.specs.Tokens.{Lies, IsClosed};
+ghost use Rattle.ppddl_lex.specs.Words.{lowered, lowered_byte};
+ghost use Rattle.token_cursor.specs.declared.cursor.Next.TheVariants.{Word, End};
+ghost use Rattle.token_cursor.specs.Ahead.{size, is_top, pieces_of, after, next_of, place_of, word_of, has_form, is_word, same};
+ghost use Rattle.token_cursor.specs.Pieces.{pieces, text_ahead, last_line};
+ghost use Rattle.token_cursor.specs.Reading.{Gives, rest_at, all_at, ends};
+
+use crate::place::Place;
+use ppddl_lex::{Token, TokenKind};
+use ppddl_model::{Text, TextCode, TextRefusal};
+use std::alloc::{AllocError, Global};
+use std::marker::Model;
+
+/// What stands next.
+#[derive(Clone, Copy, Debug, PartialEq, Eq)]
+pub enum Next {
+    /// A word.
+    Word,
+    /// `(`
+    Open,
+    /// `)`
+    Close,
+    /// The end of the text.
+    End,
+}
+
+/// A place between two tokens of a text, which contracts see as what lies ahead of it.
+#[derive(Drop)]
+pub struct Cursor<'a> {
+    text: &'a [u8],
+    tokens: &'a [Token],
+    file: u8,
+    index: usize,
+}
+
+impl<'a> Model for Cursor<'a> {
+    ghost use Rattle.token_cursor.specs.Ahead.{Ahead};
+    ghost use Rattle.token_cursor.specs.Stored.{ahead_code};
+
+    ghost Value = { Ahead };
+
+    ghost coded = { ahead_code };
+
+    ghost use Rattle.token_cursor.specs.View.{ahead_at, IsValid};
+
+    ghost view = { ahead_at };
+
+    ghost invariant = { IsValid };
+}
+
+impl<'a> Cursor<'a> {
+    /// The cursor at the beginning of text number `file`, whose tokens these are.
+    pub fn over(text: &'a [u8], tokens: &'a [Token], file: u8) -> Cursor<'a>
+        requires size { length text.now + 1 < 2 ^ 32 }
+        requires lie { All (Lies (length text.now)) tokens.now }
+        requires closed { IsClosed tokens.now }
+        ensures ahead { result ≡ text_ahead text.now file tokens.now }
+        ensures spelled { pieces_of result ≡ pieces text.now file tokens.now }
+        ensures top { is_top result ≡ true }
+    {
+        Cursor {
+            text,
+            tokens,
+            file,
+            index: 0,
+        }
+    }
+
+    /// What stands next.
+    pub fn next(&self) -> Next
+        ensures { result ≡ next_of self.now }
+    {
+        match self.tokens.get(self.index) {
+            None => Next::End,
+            Some(token) => match token.kind {
+                TokenKind::Left => Next::Open,
+                TokenKind::Right => Next::Close,
+                TokenKind::Word => Next::Word,
+            },
+        }
+    }
+
+    /// Whether a form is next, and neither the end of a group nor that of the text.
+    pub fn has_form(&self) -> bool
+        ensures { result ≡ has_form self.now }
+    {
+        match self.next() {
+            Next::Word | Next::Open => true,
+            Next::Close | Next::End => false,
+        }
+    }
+
+    /// The next word as the text has it, in letters of either case.
+    pub fn raw_word(&self) -> &'a [u8]
+        requires { next_of self.now ≡ Word }
+        ensures { lowered result.now ≡ word_of self.now }
+    {
+        let token = &self.tokens[self.index];
+        &self.text[token.from as usize..token.to as usize]
+    }
+
+    /// A copy of the next word, in lower case.
+    pub fn word(&self, alloc: Global) -> Result<Text, AllocError>
+        requires { next_of self.now ≡ Word }
+        ensures { IfOk result (λ word. word ≡ word_of self.now) }
+    {
+        let bytes = self
+            .raw_word()
+            .iter()
+            .map(|byte| lower(*byte))
+            .collect(alloc)?;
+        Ok(Text::from_vec(bytes))
+    }
+
+    /// Where the next token stands; at the end of the text, its last line.
+    pub fn place(&self) -> Place
+        ensures { result ≡ place_of self.now }
+    {
+        let line = match self.tokens.get(self.index) {
+            Some(token) => token.line,
+            None => last_line(self.text),
+        };
+        Place {
+            file: self.file,
+            line,
+        }
+    }
+
+    /// The refusal of the next token; at the end of the text, of its last line.
+    pub fn refusal(&self, code: TextCode) -> TextRefusal
+        ensures { result ≡ At code (place_of self.now).file (place_of self.now).line }
+    {
+        self.place().refusal(code)
+    }
+
+    /// Goes past the next token.
+    pub fn advance(&mut self)
+        requires { next_of self.old ≡ End → ⊥ }
+        ensures after { self.new ≡ after self.old }
+        ensures fewer { size self.new < size self.old }
+    {
+        self.index += 1;
+    }
+
+    /// Goes past the `)` of the innermost group. Anything else that stands next is refused as `Expected`.
+    pub fn close(&mut self) -> Result<(), TextRefusal>
+        ensures gives { Gives (λ _. (tt, self.new)) result (rest_at ends self.old) }
+        ensures fewer { OnOk result (size self.new < size self.old) }
+    {
+        if self.next() != Next::Close {
+            return Err(self.refusal(TextCode::Expected));
+        }
+        self.advance();
+        Ok(())
+    }
+
+    /// Accepts the end of the text. A token that stands next is refused as `Expected`.
+    pub fn end(&self) -> Result<(), TextRefusal>
+        ensures { Gives (λ _. tt) result (all_at ends self.now) }
+    {
+        if self.next() != Next::End {
+            return Err(self.refusal(TextCode::Expected));
+        }
+        Ok(())
+    }
+}
+
+/// The letters A to Z as a to z.
+fn lower(byte: u8) -> u8
+    ensures { result ≡ lowered_byte byte }
+{
+    if byte.is_ascii_uppercase() {
+        byte + 32
+    } else {
+        byte
+    }
+}
+
+/// The line on which a text ends, from 1.
+fn last_line(text: &[u8]) -> u32
+    requires { length text.now + 1 < 2 ^ 32 }
+    ensures { result ≡ last_line text.now }
+{
+    text.iter().filter(|byte| **byte == b'\n').count() as u32 + 1
+}

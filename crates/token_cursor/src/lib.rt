@@ -1,0 +1,12 @@
+//! A cursor over the tokens of a PPDDL text, on which every reader of such texts stands.
+//!
+//! Tokens whose parentheses close spell forms (S-expressions). A reader of a form, of the rest of a
+//! group or of the rest of a text is a function over forms, in `specs/`; a call that reads through the
+//! cursor answers what that function gives on what lies ahead, with the place of what is refused.
+#![tactic(auto)]
+
+pub mod cursor;
+pub mod place;
+
+pub use cursor::{Cursor, Next};
+pub use place::Place;
