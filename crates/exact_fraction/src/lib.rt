@@ -2,9 +2,14 @@
 //! micro-units (a millionth of a unit).
 #![tactic(auto)]
 
-pub mod divisors;
+mod digits;
+mod divisors;
+mod numbers;
+mod refusal;
 
 pub use divisors::{divisor_laws, gcd, lcm_within};
+pub use numbers::{number_laws, read_amount, read_probability};
+pub use refusal::NumberRefusal;
 
 /// A probability, as a fraction in lowest terms.
 ///
@@ -14,3 +19,6 @@ pub struct Fraction {
     pub num: u64,
     pub den: u64,
 }
+
+#[cfg(test)]
+mod tests;

@@ -1,6 +1,12 @@
 -- Words: letters A to Z are read as a to z.
---     lowered w        the word w with its letters lowered; what a reader compares and keeps
-use Rattle.std.specs.Prelude.{ℕ, ◌+◌, List, map, Bool, cond, ◌&&◌, leb}
+--     lowered w             the word w with its letters lowered; what a reader compares and keeps
+--     is_same_word w lower  w is this word of small letters
+--     is_name w             a letter, then letters, digits, `-` and `_`, and not reserved
+--     is_variable w         `?` and such a word, reserved or not
+--     is_flag w             a word that begins with `:`
+use Rattle.std.specs.Prelude.{◌≡◌, ℕ, ◌+◌, List, [], ◌∷◌, map, codes, Bool, true, false, cond, not, ◌==◌, ◌&&◌, ◌||◌, leb, refl}
+use Rattle.std.specs.List.{list_any, list_all}
+use Rattle.std.specs.Str.{bytes_eq}
 
 abbrev pub is_capital : ℕ → Bool
 is_capital b = leb 65 b && leb b 90
@@ -10,3 +16,62 @@ lowered_byte b = cond (is_capital b) (b + 32) b
 
 abbrev pub lowered : List ℕ → List ℕ
 lowered w = map lowered_byte w
+
+abbrev pub is_same_word : List ℕ → List ℕ → Bool
+is_same_word w lower = bytes_eq (lowered w) lower
+
+-- The tests below are on lowered bytes.
+
+abbrev pub is_letter : ℕ → Bool
+is_letter b = leb 97 b && leb b 122
+
+abbrev pub is_digit : ℕ → Bool
+is_digit b = leb 48 b && leb b 57
+
+-- a letter, a digit, `-` or `_`
+abbrev pub is_name_byte : ℕ → Bool
+is_name_byte b = is_letter b || is_digit b || b == 45 || b == 95
+
+abbrev pub has_name_form : List ℕ → Bool
+has_name_form [] = false
+has_name_form (b ∷ bs) = is_letter b && list_all is_name_byte bs
+
+abbrev pub reserved_words : List (List ℕ)
+reserved_words =
+    codes "and" ∷ codes "or" ∷ codes "not" ∷ codes "imply" ∷ codes "exists" ∷ codes "forall" ∷ codes "when" ∷ codes "probabilistic"
+    ∷ codes "increase" ∷ codes "decrease" ∷ codes "assign" ∷ codes "scale-up" ∷ codes "scale-down" ∷ codes "either" ∷ codes "reward" ∷ []
+
+abbrev pub is_reserved : List ℕ → Bool
+is_reserved w = list_any (is_same_word w) reserved_words
+
+abbrev pub is_name : List ℕ → Bool
+is_name w = has_name_form (lowered w) && not (is_reserved w)
+
+abbrev pub is_variable : List ℕ → Bool
+is_variable [] = false
+is_variable (b ∷ bs) = b == 63 && has_name_form (lowered bs)
+
+abbrev pub is_flag : List ℕ → Bool
+is_flag [] = false
+is_flag (b ∷ bs) = b == 58
+
+example_name : is_name (codes "Move-car_2") ≡ true
+example_name = refl
+
+example_reserved : is_name (codes "AND") ≡ false
+example_reserved = refl
+
+example_digit_first : is_name (codes "2nd") ≡ false
+example_digit_first = refl
+
+example_variable : is_variable (codes "?X") ≡ true
+example_variable = refl
+
+example_reserved_variable : is_variable (codes "?and") ≡ true
+example_reserved_variable = refl
+
+example_mark_alone : is_variable (codes "?") ≡ false
+example_mark_alone = refl
+
+example_flag : is_flag (codes ":types") ≡ true
+example_flag = refl

@@ -1,6 +1,16 @@
 //! The tokens of PPDDL texts: parentheses and words.
 #![tactic(auto)]
 
+mod bytes;
+mod lexer;
+mod refusal;
+mod words;
+
+pub use lexer::{next_token, tokens};
+pub use plain_list::List;
+pub use refusal::LexRefusal;
+pub use words::{is_flag, is_name, is_reserved, is_same_word, is_variable};
+
 /// What a token is.
 #[derive(Clone, Copy, Debug, PartialEq, Eq)]
 pub enum TokenKind {
@@ -22,3 +32,6 @@ pub struct Token {
     pub to: u32,
     pub line: u32,
 }
+
+#[cfg(test)]
+mod tests;

@@ -1,7 +1,8 @@
 //! A place that holds bytes under names, as a folder does.
-ghost use Rattle.std.specs.Prelude.{◌≡◌, ◌≢◌, ◌⊎◌, ◌≤◌, ◌<◌, List, ℕ, length, IfOk, OnOk, IsErrOf};
+ghost use Rattle.std.specs.Prelude.{◌≡◌, ◌≢◌, ◌⊎◌, ◌≤◌, ◌<◌, List, ℕ, length, IfSome, IfOk, OnOk, IsErrOf};
+ghost use Rattle.std.specs.Option.{option_copied};
 ghost use Rattle.shelf_io.specs.Causes.{Rose};
-ghost use Rattle.shelf_io.specs.Shelf.{Told, Missing, Holds, MayHold, written};
+ghost use Rattle.shelf_io.specs.Shelf.{Told, Missing, Holds, MayHold, MayHoldNamed, NamedTold, written};
 
 use crate::{Bytes, ShelfFault, WriteFault};
 use std::alloc::Global;
@@ -53,4 +54,32 @@ pub trait Shelf {
         ensures memory_held { IsErrOf result WriteFault.Memory → held self.new ≡ held self.old }
         ensures memory_count { IsErrOf result WriteFault.Memory → write_faults self.new ≡ write_faults self.old }
         ensures reads { read_faults self.new ≡ read_faults self.old };
+}
+
+/// The bytes that are held under a name, if there is a name.
+pub fn read_named<S: Shelf>(
+    alloc: Global,
+    shelf: &mut S,
+    name: Option<&str>,
+    limit: u64,
+) -> Result<Option<Bytes>, ShelfFault>
+    ensures bytes { IfOk result (λ bytes. MayHoldNamed (S.held shelf.old) (option_copied name.entry) bytes) }
+    ensures within { IfOk result (λ bytes. IfSome bytes (λ b. length b ≤ limit)) }
+    ensures too_long { IsErrOf result ShelfFault.TooLong →
+        (bytes : List ℕ) → NamedTold (S.held shelf.old) (option_copied name.entry) (Holds bytes) → limit < length bytes }
+
+    ensures failed { IsErrOf result ShelfFault.Failed → Rose (S.read_faults shelf.old) (S.read_faults shelf.new)
+        ⊎ NamedTold (S.held shelf.old) (option_copied name.entry) Missing }
+    ensures later { S.read_faults shelf.old ≤ S.read_faults shelf.new }
+
+    ensures held { S.held shelf.new ≡ S.held shelf.old }
+    ensures writes { S.write_faults shelf.new ≡ S.write_faults shelf.old }
+{
+    match name {
+        Some(name) => {
+            let bytes = shelf.read(alloc, name, limit)?;
+            Ok(Some(bytes))
+        }
+        None => Ok(None),
+    }
 }

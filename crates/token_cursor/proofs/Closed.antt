@@ -1,5 +1,5 @@
 -- Where every parenthesis of a text's tokens closes, counted from left to right, what lies ahead spells their pieces.
-use Rattle.std.proofs.Common.{◌≡◌, ℕ, zero, suc, List, [], ◌∷◌, Bool, true, false, Option, Some, None, refl, sym, ap, ◌∙◌}
+use Rattle.std.proofs.Common.{◌≡◌, ℕ, zero, suc, List, [], ◌∷◌, true, Option, Some, None, refl, ap, ◌∙◌}
 use Rattle.ppddl_lex.specs.declared.Token.{Token}
 use Rattle.ppddl_lex.specs.declared.TokenKind.{TokenKind}
 use Rattle.ppddl_lex.specs.declared.TokenKind.TheVariants.{Left, Right, Word}

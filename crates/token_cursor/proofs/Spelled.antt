@@ -1,11 +1,11 @@
 -- What lies ahead of pieces that it spells, by the first of them.
-use Rattle.std.proofs.Common.{◌≡◌, ℕ, zero, suc, List, [], ◌∷◌, ◌++◌, Bool, true, false, refl, sym, ap, ◌∙◌, append_assoc}
+use Rattle.std.proofs.Common.{◌≡◌, ℕ, List, [], ◌∷◌, ◌++◌, refl, sym, ap, ◌∙◌, append_assoc}
 use Rattle.std.proofs.lemmas.List.{append-nil}
 use Rattle.token_cursor.specs.declared.place.Place.{Place}
 use Rattle.token_cursor.specs.declared.cursor.Next.{Next}
 use Rattle.token_cursor.specs.declared.cursor.Next.TheVariants as next
-use Rattle.token_cursor.specs.Forms.{Piece, left, right, word, Form, Forms, lone, group, none, more, spell, spell_all, begin_of}
-use Rattle.token_cursor.specs.Ahead.{Ahead, top, inner, put, put_left, ahead_of, pieces_of, after, next_of, next_form, place_of, word_of, is_word, same}
+use Rattle.token_cursor.specs.Forms.{Piece, left, right, word, Form, Forms, lone, group, none, spell, spell_all, begin_of}
+use Rattle.token_cursor.specs.Ahead.{Ahead, top, inner, put, put_left, ahead_of, pieces_of, after, next_of, next_form, place_of, word_of}
 use Rattle.token_cursor.specs.Stored.{ahead-spell_all, put_all-inner}
 
 -- what lies ahead of pieces spells them: each parenthesis that opens among them also closes

@@ -1,5 +1,5 @@
 -- A cursor at one of its tokens, and at the end of them.
-use Rattle.std.proofs.Common.{◌≡◌, ℕ, zero, suc, ◌+◌, ◌<◌, ◌≤◌, List, [], ◌∷◌, length, get_or, drop, map, refl, sym, ap, subst, ◌∙◌, arith, add-one, inl, inr}
+use Rattle.std.proofs.Common.{◌≡◌, ℕ, zero, suc, ◌+◌, ◌<◌, ◌≤◌, List, [], ◌∷◌, length, get_or, drop, refl, sym, ap, subst, ◌∙◌, arith, add-one, inl, inr}
 use Rattle.std.proofs.Math.Seq.{drop-nil}
 use Rattle.std.proofs.lemmas.Bool.{cases_lt}
 use Rattle.std.specs.Prelude.{slice_range}
@@ -11,8 +11,8 @@ use Rattle.token_cursor.specs.declared.place.Place.{Place}
 use Rattle.token_cursor.specs.declared.cursor.Next.{Next}
 use Rattle.token_cursor.specs.declared.cursor.Next.TheVariants as next
 use Rattle.token_cursor.specs.declared.cursor.Cursor.TheInside.{Inside}
-use Rattle.token_cursor.specs.Forms.{Piece, left, right, word, none}
-use Rattle.token_cursor.specs.Ahead.{Ahead, top, ahead_of, size, after, next_of, place_of, word_of}
+use Rattle.token_cursor.specs.Forms.{Piece, none}
+use Rattle.token_cursor.specs.Ahead.{top, ahead_of, size, after, next_of, place_of, word_of}
 use Rattle.token_cursor.specs.Pieces.{piece, piece_by, pieces, end_of_text}
 use Rattle.token_cursor.specs.View.{rest_of, ahead_at, IsValid}
 use Rattle.token_cursor.proofs.Spelled.{IsSpelled, after_first, next_piece, next_first, place_of_piece, place_first, word_first}

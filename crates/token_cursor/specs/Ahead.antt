@@ -11,7 +11,7 @@ use Rattle.std.specs.Cmp.Lexicographic.{pointwise}
 use Rattle.token_cursor.specs.declared.place.Place.{Place}
 use Rattle.token_cursor.specs.declared.cursor.Next.{Next}
 use Rattle.token_cursor.specs.declared.cursor.Next.TheVariants as next
-use Rattle.token_cursor.specs.Forms.{Piece, left, right, word, Form, Forms, lone, group, none, more, spell, spell_all, begin_of}
+use Rattle.token_cursor.specs.Forms.{Piece, left, right, word, Form, Forms, lone, group, none, more, spell_all, begin_of}
 
 pub data Ahead : Type 0 where
   top : Forms → Place → Ahead

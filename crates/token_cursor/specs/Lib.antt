@@ -4,3 +4,4 @@ pub mod Stored
 pub mod Pieces
 pub mod View
 pub mod Reading
+pub mod Examples

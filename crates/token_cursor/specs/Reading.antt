@@ -3,14 +3,18 @@
 --     one_at read h        one form is read at h, and what is ahead behind it
 --     rest_at read h       the rest of the innermost group and its `)` are read at h, and what is ahead behind them
 --     all_at read h        the rest of the text is read at h
---     ends                 where no form is left
+--     ends                 no form is left
+--     many read            each form that is left
+--     opened h             the `(` of a group is read at h
+--     wanted w code        the word w is read; another form is refused with this code
 --     Gives view r read    what a call answered, seen by view, is what reading gives, unless memory ran out
-use Rattle.std.specs.Prelude.{◌≡◌, ℕ, List, Result, Ok, Err, cond}
+use Rattle.std.specs.Prelude.{◌≡◌, ℕ, List, [], ◌∷◌, Result, Ok, Err, cond}
 use Rattle.ppddl_model.specs.declared.refusal.TextCode.{TextCode}
 use Rattle.ppddl_model.specs.declared.refusal.TextCode.TheVariants.{Expected}
 use Rattle.ppddl_model.specs.declared.refusal.TextRefusal.{TextRefusal}
 use Rattle.ppddl_model.specs.declared.refusal.TextRefusal.TheVariants as refusal
 use Rattle.token_cursor.specs.declared.place.Place.{Place}
+use Rattle.token_cursor.specs.declared.cursor.Next.TheVariants as next
 use Rattle.token_cursor.specs.Forms.{Form, Forms, none, more, lone, group, begin_of}
 use Rattle.token_cursor.specs.Ahead.{Ahead, top, inner, same, next_of, place_of, after}
 
@@ -59,3 +63,20 @@ all_at read (inner fs b out) = read fs b >>= λ x. fails Expected b
 abbrev pub ends : Forms → Place → Result (Unit {0}) Fault
 ends none b = Ok tt
 ends (more f fs) b = fails Expected (begin_of f)
+
+abbrev pub many : {A : Type 0} → (Form → Result A Fault) → Forms → Place → Result (List A) Fault
+many read none b = Ok []
+many read (more f fs) b = read f >>= λ x. many read fs b >>= λ xs. Ok (x ∷ xs)
+
+-- anything but a `(` is at fault
+abbrev pub opened : Ahead → Result Ahead Fault
+opened h = elim (next_of h) [
+  | next.Open ↦ Ok (after h)
+  | next.Word ↦ fails Expected (place_of h)
+  | next.Close ↦ fails Expected (place_of h)
+  | next.End ↦ fails Expected (place_of h)
+]
+
+abbrev pub wanted : List ℕ → TextCode → Form → Result (Unit {0}) Fault
+wanted w code (lone v a) = cond (same v w) (Ok tt) (fails code a)
+wanted w code (group a fs b) = fails code a

@@ -1,13 +1,13 @@
-//! The cursor: a place between two tokens of a text.
+//! The cursor: a place between two tokens of a text. After a refusal it is not used again.
 
-ghost use Rattle.std.specs.Prelude.{◌≡◌, ◌<◌, ◌+◌, ◌^◌, length, All, true, IfOk, OnOk};
+ghost use Rattle.std.specs.Prelude.{◌≡◌, ◌≢◌, ◌<◌, ◌+◌, ◌^◌, length, All, true, IfOk, OnOk};
 ghost use Rattle.ppddl_model.specs.declared.refusal.TextRefusal.TheVariants.{At};
 ghost use Rattle.ppddl_lex.specs.Tokens.{Lies, IsClosed};
 ghost use Rattle.ppddl_lex.specs.Words.{lowered, lowered_byte};
 ghost use Rattle.token_cursor.specs.declared.cursor.Next.TheVariants.{Word, End};
 ghost use Rattle.token_cursor.specs.Ahead.{size, is_top, pieces_of, after, next_of, place_of, word_of, has_form, is_word, same};
 ghost use Rattle.token_cursor.specs.Pieces.{pieces, text_ahead, last_line};
-ghost use Rattle.token_cursor.specs.Reading.{Gives, rest_at, all_at, ends};
+ghost use Rattle.token_cursor.specs.Reading.{Gives, one_at, rest_at, all_at, ends, opened, wanted};
 
 use crate::place::Place;
 use ppddl_lex::{Token, TokenKind};
@@ -29,7 +29,7 @@ pub enum Next {
 }
 
 /// A place between two tokens of a text, which contracts see as what lies ahead of it.
-#[derive(Drop)]
+#[derive(Drop, Debug)]
 pub struct Cursor<'a> {
     text: &'a [u8],
     tokens: &'a [Token],
@@ -53,9 +53,10 @@ impl<'a> Model for Cursor<'a> {
 }
 
 impl<'a> Cursor<'a> {
-    /// The cursor at the beginning of text number `file`, whose tokens these are.
+    /// The cursor at the beginning of text number `file`, whose tokens these are. Each lies in the text, and
+    /// every parenthesis among them closes.
     pub fn over(text: &'a [u8], tokens: &'a [Token], file: u8) -> Cursor<'a>
-        requires size { length text.now + 1 < 2 ^ 32 }
+        requires lines_fit { length text.now + 1 < 2 ^ 32 }
         requires lie { All (Lies (length text.now)) tokens.now }
         requires closed { IsClosed tokens.now }
         ensures ahead { result ≡ text_ahead text.now file tokens.now }
@@ -116,6 +117,14 @@ impl<'a> Cursor<'a> {
         Ok(Text::from_vec(bytes))
     }
 
+    /// Whether this word is next. It is given in lower case, and may stand in letters of either case.
+    pub fn is_word(&self, word: &[u8]) -> bool
+        ensures answer { result ≡ is_word word.now self.now }
+        ensures compares { next_of self.now ≡ Word → result ≡ same (word_of self.now) word.now }
+    {
+        self.next() == Next::Word && is_lowered(self.raw_word(), word)
+    }
+
     /// Where the next token stands; at the end of the text, its last line.
     pub fn place(&self) -> Place
         ensures { result ≡ place_of self.now }
@@ -139,11 +148,39 @@ impl<'a> Cursor<'a> {
 
     /// Goes past the next token.
     pub fn advance(&mut self)
-        requires { next_of self.old ≡ End → ⊥ }
+        requires { next_of self.old ≢ End }
         ensures after { self.new ≡ after self.old }
         ensures fewer { size self.new < size self.old }
     {
         self.index += 1;
+    }
+
+    /// Goes past this word, which is given in lower case. Another form that stands next is refused with
+    /// `code`, and the end of a group or of the text as `Expected`.
+    pub fn expect_word(&mut self, word: &[u8], code: TextCode) -> Result<(), TextRefusal>
+        ensures gives { Gives (λ _. (tt, self.new)) result (one_at (wanted word.now code) self.old) }
+        ensures fewer { OnOk result (size self.new < size self.old) }
+    {
+        if !self.has_form() {
+            return Err(self.refusal(TextCode::Expected));
+        }
+        if !self.is_word(word) {
+            return Err(self.refusal(code));
+        }
+        self.advance();
+        Ok(())
+    }
+
+    /// Goes past the `(` of a group. Anything else that stands next is refused as `Expected`.
+    pub fn open(&mut self) -> Result<(), TextRefusal>
+        ensures gives { Gives (λ _. self.new) result (opened self.old) }
+        ensures fewer { OnOk result (size self.new < size self.old) }
+    {
+        if self.next() != Next::Open {
+            return Err(self.refusal(TextCode::Expected));
+        }
+        self.advance();
+        Ok(())
     }
 
     /// Goes past the `)` of the innermost group. Anything else that stands next is refused as `Expected`.
@@ -167,6 +204,21 @@ impl<'a> Cursor<'a> {
         }
         Ok(())
     }
+}
+
+/// Whether the word `raw` is `word` once its letters are lowered.
+fn is_lowered(raw: &[u8], word: &[u8]) -> bool
+    ensures { result ≡ same (lowered raw.now) word.now }
+{
+    if raw.len() != word.len() {
+        return false;
+    }
+    for i in 0..raw.len() {
+        if lower(raw[i]) != word[i] {
+            return false;
+        }
+    }
+    true
 }
 
 /// The letters A to Z as a to z.

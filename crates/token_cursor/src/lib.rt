@@ -7,6 +7,8 @@
 
 pub mod cursor;
 pub mod place;
+#[cfg(test)]
+mod tests;
 
 pub use cursor::{Cursor, Next};
 pub use place::Place;

@@ -1,6 +1,7 @@
 -- The laws of decision processes, by their lemmas.
 use Rattle.std.proofs.Common.{add-one}
-use Rattle.decision_process.proofs.LowerBounds.{least_rises, least_le_cost, least_le_spend}
+use Rattle.decision_process.proofs.LeastCost.{least_rises}
+use Rattle.decision_process.proofs.LowerBounds.{least_le_cost, least_le_spend}
 use Rattle.decision_process.proofs.Balance.{balanced_encloses, balanced_interval_encloses}
 use Rattle.decision_process.proofs.Ending.{policy_ends}
 use Rattle.decision_process.proofs.process_laws.Goals as goal

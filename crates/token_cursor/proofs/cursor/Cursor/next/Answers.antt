@@ -1,5 +1,4 @@
-use Rattle.std.proofs.Common.{◌≡◌, sym, ap, ◌∙◌}
-use Rattle.token_cursor.specs.Ahead.{next_of}
+use Rattle.std.proofs.Common.{sym, ap, ◌∙◌}
 use Rattle.token_cursor.proofs.Tokens.{next_kind, next_at}
 use Rattle.token_cursor.proofs.cursor.Cursor.next.Goals as goal
 

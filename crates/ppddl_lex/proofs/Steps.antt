@@ -1,0 +1,65 @@
+-- What one byte makes of the tokens behind it.
+use Rattle.std.proofs.Common.{◌≡◌, ℕ, suc, ◌==◌, Bool, true, false, cond, List, [], ◌∷◌, Ok, Err, refl, rules, tests}
+use Rattle.ppddl_lex.specs.declared.TokenKind.TheVariants as kind
+use Rattle.ppddl_lex.specs.declared.bytes.ByteClass.{ByteClass}
+use Rattle.ppddl_lex.specs.declared.bytes.ByteClass.TheVariants as byte
+use Rattle.ppddl_lex.specs.declared.refusal.LexRefusal.TheVariants.{BadByte}
+use Rattle.ppddl_lex.specs.Bytes.{class_of}
+use Rattle.ppddl_lex.specs.Lexemes.{tokens_from, comment_from, put_word_byte, single}
+
+pub after_feed : (place line b : ℕ) (bs : List ℕ) → class_of b ≡ byte.LineFeed → tokens_from place line (b ∷ bs) ≡ tokens_from (suc place) (suc line) bs
+after_feed place line b bs e = rw (e, tokens_from) refl
+
+pub after_blank : (place line b : ℕ) (bs : List ℕ) → class_of b ≡ byte.Blank → tokens_from place line (b ∷ bs) ≡ tokens_from (suc place) line bs
+after_blank place line b bs e = rw (e, tokens_from) refl
+
+pub after_semicolon : (place line b : ℕ) (bs : List ℕ) → class_of b ≡ byte.Semicolon → tokens_from place line (b ∷ bs) ≡ comment_from (suc place) line bs
+after_semicolon place line b bs e = rw (e, tokens_from) refl
+
+pub at_left : (place line b : ℕ) (bs : List ℕ) → class_of b ≡ byte.Left → tokens_from place line (b ∷ bs) ≡ Ok (single kind.Left place line) ∷ tokens_from (suc place) line bs
+at_left place line b bs e = rw (e, tokens_from) refl
+
+pub at_right : (place line b : ℕ) (bs : List ℕ) → class_of b ≡ byte.Right → tokens_from place line (b ∷ bs) ≡ Ok (single kind.Right place line) ∷ tokens_from (suc place) line bs
+at_right place line b bs e = rw (e, tokens_from) refl
+
+pub at_word_byte : (place line b : ℕ) (bs : List ℕ) → class_of b ≡ byte.Word → tokens_from place line (b ∷ bs) ≡ put_word_byte place line (tokens_from (suc place) line bs)
+at_word_byte place line b bs e = rw (e, tokens_from) refl
+
+pub at_bad : (place line b : ℕ) (bs : List ℕ) → class_of b ≡ byte.Bad → tokens_from place line (b ∷ bs) ≡ Err (BadByte line) ∷ []
+at_bad place line b bs e = rw (e, tokens_from) refl
+
+pub comment_ends : (place line b : ℕ) (bs : List ℕ) → (b == 10) ≡ true → comment_from place line (b ∷ bs) ≡ tokens_from (suc place) (suc line) bs
+comment_ends place line b bs e = rw (e, comment_from) refl
+
+pub comment_goes_on : (place line b : ℕ) (bs : List ℕ) → (b == 10) ≡ false → comment_from place line (b ∷ bs) ≡ comment_from (suc place) line bs
+comment_goes_on place line b bs e = rw (e, comment_from) refl
+
+-- the class that the answers to the tests of class_of make
+abbrev class_by : Bool → Bool → Bool → Bool → Bool → Bool → ByteClass
+class_by feed blank semicolon left right word =
+    cond feed byte.LineFeed (cond blank byte.Blank (cond semicolon byte.Semicolon (cond left byte.Left (cond right byte.Right (cond word byte.Word byte.Bad)))))
+
+abbrev pub feed_class : ByteClass → Bool
+feed_class k = elim k [ byte.LineFeed ↦ true | byte.Blank ↦ false | byte.Semicolon ↦ false | byte.Left ↦ false | byte.Right ↦ false | byte.Word ↦ false | byte.Bad ↦ false ]
+
+by_feed : (feed blank semicolon left right word : Bool) → feed ≡ feed_class (class_by feed blank semicolon left right word)
+by_feed true _ _ _ _ _ = refl
+by_feed false true _ _ _ _ = refl
+by_feed false false true _ _ _ = refl
+by_feed false false false true _ _ = refl
+by_feed false false false false true _ = refl
+by_feed false false false false false true = refl
+by_feed false false false false false false = refl
+
+-- whether a byte is a line feed, by its class
+pub feed-class : (b : ℕ) → (b == 10) ≡ feed_class (class_of b)
+feed-class b = by_feed (b == 10) _ _ _ _ _
+
+pub class-feed : (b : ℕ) → (b == 10) ≡ true → class_of b ≡ byte.LineFeed
+class-feed b e = rw e refl
+
+pub left_byte : (b : ℕ) → class_of b ≡ byte.Left → b ≡ 40
+left_byte b e = search (tests, rules)
+
+pub right_byte : (b : ℕ) → class_of b ≡ byte.Right → b ≡ 41
+right_byte b e = search (tests, rules)

@@ -1,0 +1,135 @@
+//! Tokens one after another, and all of them.
+
+ghost use Rattle.std.specs.Prelude.{◌≡◌, ℕ, ◌+◌, ◌*◌, ◌^◌, ◌<◌, ◌≤◌, ◌==◌, ◌↔◌, ◌∷◌, length, drop, All, IsNone, IfOk, Ok, slice_get, take_while, count_by};
+ghost use Rattle.ppddl_lex.specs.Bytes.{is_word_byte, continues_comment, line_feeds};
+ghost use Rattle.ppddl_lex.specs.Gaps.{IsLastGap, IsNext, Spells};
+ghost use Rattle.ppddl_lex.specs.Lexemes.{tokens_at, tokens_of, token_of, depth_behind, Continues, Gives, IfToken, LiesBehind};
+ghost use Rattle.ppddl_lex.specs.Tokens.{Lies, IsClosed};
+
+use crate::bytes::{ByteClass, class_of, is_word_byte};
+use crate::{LexRefusal, List, Token, TokenKind};
+use std::alloc::Global;
+
+/// The most parentheses that may be open.
+const MOST_OPEN: u32 = 100;
+
+/// How many bytes the word that the bytes begin with has.
+fn word_length(bytes: &[u8]) -> usize
+    ensures { result ≡ length (take_while is_word_byte bytes.now) }
+{
+    bytes.iter().take_while(|byte| is_word_byte(**byte)).count()
+}
+
+/// How many bytes are left of the comment that the bytes begin in, without its line feed.
+fn comment_length(bytes: &[u8]) -> usize
+    ensures { result ≡ length (take_while continues_comment bytes.now) }
+{
+    bytes.iter().take_while(|byte| **byte != b'\n').count()
+}
+
+/// A token of a text of at most 1 MiB.
+fn token(kind: TokenKind, from: usize, to: usize, line: u32) -> Token
+    requires ordered { from ≤ to }
+    requires short { to ≤ 1048576 }
+    ensures { result ≡ token_of kind from to line }
+{
+    Token {
+        kind,
+        from: from as u32,
+        to: to as u32,
+        line,
+    }
+}
+
+/// The next token of a text from `place` on, which is on `line` and in no comment; None where only blanks
+/// and comments are left.
+///
+/// Go on from the token's `to` and `line`, since a token holds no line feed. The refusal is
+/// `BadByte`, at a byte that comes next outside comments and is not allowed there. No memory is taken.
+pub fn next_token(text: &[u8], place: usize, line: u32) -> Option<Result<Token, LexRefusal>>
+    requires short { length text.now ≤ 1048576 }
+    requires within { place ≤ length text.now }
+    requires few_lines { line < 2 ^ 31 }
+    ensures next { Continues text.now place line result }
+    ensures lies { IfToken result (LiesBehind place line (length text.now)) }
+    // The line rises with each line feed that is passed, so the end of the text stays on the same line.
+    ensures lines { IfToken result (λ t. t.line + line_feeds (drop t.to text.now)
+        ≡ line + line_feeds (drop place text.now)) }
+    // Nothing but a gap stands before it, and a word is a longest run.
+    ensures stands { IsNext place line (drop place text.now) result }
+    ensures end { IsNone result ↔ IsLastGap (drop place text.now) }
+{
+    let mut place = place;
+    let mut line = line;
+    while place < text.len() {
+        match class_of(text[place]) {
+            ByteClass::LineFeed => {
+                place += 1;
+                line += 1;
+            }
+            ByteClass::Blank => place += 1,
+            ByteClass::Semicolon => place += comment_length(&text[place..]),
+            ByteClass::Left => return Some(Ok(token(TokenKind::Left, place, place + 1, line))),
+            ByteClass::Right => return Some(Ok(token(TokenKind::Right, place, place + 1, line))),
+            ByteClass::Word => {
+                let end = place + word_length(&text[place..]);
+                return Some(Ok(token(TokenKind::Word, place, end, line)));
+            }
+            ByteClass::Bad => return Some(Err(LexRefusal::BadByte { line })),
+        }
+    }
+    None
+}
+
+/// How many parentheses are open behind a token, where `depth` are open before it.
+fn depth_behind(depth: u32, token: Token) -> Result<u32, LexRefusal>
+    requires { depth ≤ 100 }
+    ensures answer { result ≡ depth_behind depth token }
+    ensures most { IfOk result (λ behind. behind ≤ 100) }
+{
+    let line = token.line;
+    match token.kind {
+        TokenKind::Left if depth == MOST_OPEN => Err(LexRefusal::TooDeep { line }),
+        TokenKind::Left => Ok(depth + 1),
+        TokenKind::Right if depth == 0 => Err(LexRefusal::Unbalanced { line }),
+        TokenKind::Right => Ok(depth - 1),
+        TokenKind::Word => Ok(depth),
+    }
+}
+
+/// How many lines end among the bytes.
+fn line_feeds(bytes: &[u8]) -> usize
+    ensures { result ≡ line_feeds bytes.now }
+{
+    bytes.iter().filter(|byte| **byte == b'\n').count()
+}
+
+/// All tokens of a text, in order, or the first refusal in byte order. What is open at the end is refused last, on
+/// the last line.
+pub fn tokens(alloc: Global, text: &[u8]) -> Result<List<Token>, LexRefusal>
+    requires { length text.now ≤ 1048576 }
+    ensures exact { Gives result (tokens_of text.now) }
+    ensures lie { IfOk result (All (Lies (length text.now))) }
+    ensures closed { IfOk result IsClosed }
+    // The tokens and the gaps between them are the whole text.
+    ensures spelled { IfOk result (Spells 0 1 text.now) }
+    ensures only { IfOk result (λ ts. (others : List Token)
+        → Spells 0 1 text.now others → others ≡ ts) }
+{
+    let mut tokens = Vec::new(alloc);
+    let mut place = 0;
+    let mut line = 1;
+    let mut depth = 0;
+    while let Some(next) = next_token(text, place, line) {
+        let token = next?;
+        depth = depth_behind(depth, token)?;
+        tokens.push(token).map_err(|_| LexRefusal::Memory)?;
+        place = token.to as usize;
+        line = token.line;
+    }
+    if depth > 0 {
+        line += line_feeds(&text[place..]) as u32;
+        return Err(LexRefusal::Unbalanced { line });
+    }
+    Ok(List::from_vec(tokens))
+}
