@@ -236,3 +236,30 @@ impl<T: Clone> Clone for Boxed<T> {
         Ok(Boxed { inner })
     }
 }
+
+#[cfg(test)]
+mod tests {
+    use super::*;
+    use std::test::Fail;
+
+    #[test]
+    fn holds_what_it_is_given(rt: HostRuntime) -> Result<(), Fail> {
+        let alloc = rt.alloc();
+        let list = List::from_vec([1u32, 2].to_vec(alloc)?);
+        assert_eq!(rt; list.as_slice(), [1, 2].as_slice());
+        assert!(rt; list.clone()? == list);
+
+        let text = Text::from_slice(alloc, b"coin")?;
+        assert!(rt; text.clone()? == text);
+        assert!(rt; text != Text::from_vec(b"coins".to_vec(alloc)?));
+
+        let bytes = Bytes::from_slice(alloc, b"\xff")?;
+        assert!(rt; bytes.clone()? == bytes);
+        assert!(rt; bytes != Bytes::from_vec(Vec::new(alloc)));
+
+        let boxed = Boxed::new(alloc, 7u64)?;
+        assert_eq!(rt; *boxed.get(), 7);
+        assert!(rt; boxed.clone()? == Boxed::from_box(Box::new(alloc, 7)?));
+        Ok(())
+    }
+}
