@@ -2,6 +2,6 @@ mod Steps
 mod Runs
 mod Next
 mod Only
-pub mod Places
-pub mod Whole
-pub mod Lowered
+mod Places
+mod Whole
+mod Lowered

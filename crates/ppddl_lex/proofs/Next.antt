@@ -88,10 +88,10 @@ word_stands place line b bs e =
       line = omega arith;
     }
 
-one_line_more : (line b : ℕ) → (b == 10) ≡ true → suc line ≡ line + cond (b == 10) 1 0
+pub one_line_more : (line b : ℕ) → (b == 10) ≡ true → suc line ≡ line + cond (b == 10) 1 0
 one_line_more line b e = rw e (omega arith)
 
-same_line : (line b : ℕ) → (b == 10) ≡ false → line ≡ line + cond (b == 10) 1 0
+pub same_line : (line b : ℕ) → (b == 10) ≡ false → line ≡ line + cond (b == 10) 1 0
 same_line line b e = rw e (omega arith)
 
 pub no_feed : (b : ℕ) (k : ByteClass) → class_of b ≡ k → feed_class k ≡ false → (b == 10) ≡ false
@@ -131,8 +131,13 @@ of_begin place line bs [] h = h
 of_begin place line bs (Ok t ∷ ls) (gap, spelling, rest, is_gap, stands, ahead) = (gap, spelling, rest, is_gap, stands)
 of_begin place line bs (Err e ∷ ls) (gap, b, rest, is_gap, is_bad, ahead) = (gap, b, rest, is_gap, is_bad)
 
+first_of : (text : List ℕ) (place line : ℕ) (next : Option Lexeme) → Continues text place line next → slice_get (tokens_at text place line) 0 ≡ next
+first_of text place line None e = ap (λ ls. slice_get ls 0) e
+first_of text place line (Some (Ok t)) e = ap (λ ls. slice_get ls 0) e
+first_of text place line (Some (Err x)) e = ap (λ ls. slice_get ls 0) e
+
 -- what continues a text is what comes next in it
 pub next_stands : (text : List ℕ) (place line : ℕ) (next : Option Lexeme) → Continues text place line next → IsNext place line (drop place text) next
-next_stands text place line None e = of_begin place line (drop place text) [] (subst (Begin IsGap place line (drop place text)) e (begins place line (drop place text)))
-next_stands text place line (Some (Ok t)) e = of_begin place line (drop place text) (Ok t ∷ tokens_at text t.to t.line) (subst (Begin IsGap place line (drop place text)) e (begins place line (drop place text)))
-next_stands text place line (Some (Err x)) e = of_begin place line (drop place text) (Err x ∷ []) (subst (Begin IsGap place line (drop place text)) e (begins place line (drop place text)))
+next_stands text place line next e =
+    let bs = drop place text in
+    subst (IsNext place line bs) (first_of text place line next e) (of_begin place line bs (tokens_from place line bs) (begins place line bs))

@@ -13,13 +13,7 @@ use Rattle.ppddl_lex.specs.Lexemes.{Lexeme, tokens_from, comment_from, token_of,
 use Rattle.ppddl_lex.specs.Gaps.{IsGap, IsCommentAndGap, IsLastGap, EndsWord, IsSpelling, Stands, IsNext, Spells}
 use Rattle.ppddl_lex.proofs.Steps.{after_feed, after_blank, after_semicolon, at_left, at_right, comment_ends, comment_goes_on, feed_class, feed-class}
 use Rattle.ppddl_lex.proofs.Runs.{front_len, word_run, is_word_byte-true, class-word_byte}
-use Rattle.ppddl_lex.proofs.Next.{line_feeds-cons, no_feed, next_stands}
-
-feed_line : (line b : ℕ) → (b == 10) ≡ true → suc line ≡ line + cond (b == 10) 1 0
-feed_line line b e = rw e (omega arith)
-
-own_line : (line b : ℕ) → (b == 10) ≡ false → line ≡ line + cond (b == 10) 1 0
-own_line line b e = rw e (omega arith)
+use Rattle.ppddl_lex.proofs.Next.{line_feeds-cons, one_line_more, same_line, no_feed, next_stands}
 
 moved : (rest : List ℕ) (place line place' line' : ℕ) → place ≡ place' → line ≡ line' → tokens_from place line rest ≡ tokens_from place' line' rest
 moved rest place line place' line' p l = cc
@@ -38,13 +32,13 @@ mutual
       (elim (class_of b) as (λ k. class_of b ≡ k → tokens_from place line (b ∷ gap ++ rest) ≡ tokens_from (place + length (b ∷ gap)) (line + line_feeds (b ∷ gap)) rest) [
         | byte.LineFeed ↦ λ e.
             after_feed place line b (gap ++ rest) e ∙ gap_passes (suc place) (suc line) gap rest (rw (e, IsGap) at h)
-            ∙ behind place line (suc line) b gap rest (feed_line line b (feed-class b ∙ ap feed_class e))
+            ∙ behind place line (suc line) b gap rest (one_line_more line b (feed-class b ∙ ap feed_class e))
         | byte.Blank ↦ λ e.
             after_blank place line b (gap ++ rest) e ∙ gap_passes (suc place) line gap rest (rw (e, IsGap) at h)
-            ∙ behind place line line b gap rest (own_line line b (no_feed b byte.Blank e refl))
+            ∙ behind place line line b gap rest (same_line line b (no_feed b byte.Blank e refl))
         | byte.Semicolon ↦ λ e.
             after_semicolon place line b (gap ++ rest) e ∙ comment_passes (suc place) line gap rest (rw (e, IsGap) at h)
-            ∙ behind place line line b gap rest (own_line line b (no_feed b byte.Semicolon e refl))
+            ∙ behind place line line b gap rest (same_line line b (no_feed b byte.Semicolon e refl))
         | byte.Left ↦ λ e. absurd (rw (e, IsGap) at h)
         | byte.Right ↦ λ e. absurd (rw (e, IsGap) at h)
         | byte.Word ↦ λ e. absurd (rw (e, IsGap) at h)
@@ -57,10 +51,10 @@ mutual
       (elim (b == 10) as (λ v. (b == 10) ≡ v → comment_from place line (b ∷ gap ++ rest) ≡ tokens_from (place + length (b ∷ gap)) (line + line_feeds (b ∷ gap)) rest) [
         | true ↦ λ e.
             comment_ends place line b (gap ++ rest) e ∙ gap_passes (suc place) (suc line) gap rest (rw (e, IsCommentAndGap) at h)
-            ∙ behind place line (suc line) b gap rest (feed_line line b e)
+            ∙ behind place line (suc line) b gap rest (one_line_more line b e)
         | false ↦ λ e.
             comment_goes_on place line b (gap ++ rest) e ∙ comment_passes (suc place) line gap rest (rw (e, IsCommentAndGap) at h)
-            ∙ behind place line line b gap rest (own_line line b e)
+            ∙ behind place line line b gap rest (same_line line b e)
       ]) refl
 
 mutual

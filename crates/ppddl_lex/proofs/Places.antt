@@ -7,7 +7,7 @@ use Rattle.ppddl_lex.specs.declared.refusal.LexRefusal.TheVariants.{BadByte}
 use Rattle.ppddl_lex.specs.Bytes.{class_of, is_word_byte, continues_comment}
 use Rattle.ppddl_lex.specs.Lexemes.{tokens_from, tokens_at, token_of}
 use Rattle.ppddl_lex.proofs.Steps.{after_semicolon, at_left, at_right, at_bad, feed_class, feed-class}
-use Rattle.ppddl_lex.proofs.Runs.{front_len, front_len-le, length-take_while, word_run, comment_run, is_word_byte-true}
+use Rattle.ppddl_lex.proofs.Runs.{front_len, front_len-le, length-take_while, word_run, comment_run}
 
 pub left_at : (text : List ℕ) (place line : ℕ) → place < length text → class_of (get_or text place 0) ≡ byte.Left
     → tokens_at text place line ≡ Ok (token_of kind.Left place (place + 1) line) ∷ tokens_at text (place + 1) line
@@ -43,14 +43,6 @@ word_at text place line n within e long =
     ap (tokens_from place line) all ∙ word_run place line b bs e
     ∙ ap (λ k. Ok (token_of kind.Word place (place + k) line) ∷ tokens_from (place + k) line (drop m (b ∷ bs))) same
     ∙ ap (λ x. Ok (token_of kind.Word place (place + n) line) ∷ tokens_from (place + n) line x) behind
-
--- and there is a byte in it
-pub word_nonempty : (text : List ℕ) (place : ℕ) → place < length text → class_of (get_or text place 0) ≡ byte.Word → 0 < length (take_while is_word_byte (drop place text))
-word_nonempty text place within e =
-    let b = get_or text place 0 in
-    let bs = drop (place + 1) text in
-    let one : front_len is_word_byte (b ∷ bs) ≡ suc (front_len is_word_byte bs) = rw (is_word_byte-true b e) refl in
-    rw (drop_more text place 0 within) (omega (arith, length-take_while is_word_byte (b ∷ bs), one))
 
 -- the comment at this place is passed
 pub comment_at : (text : List ℕ) (place line n : ℕ) → place < length text → class_of (get_or text place 0) ≡ byte.Semicolon → n ≡ length (take_while continues_comment (drop place text))

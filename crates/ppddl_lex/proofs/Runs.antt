@@ -5,8 +5,9 @@ use Rattle.std.proofs.lemmas.Bool.{ne_eqb}
 use Rattle.ppddl_lex.specs.declared.Token.{Token}
 use Rattle.ppddl_lex.specs.declared.TokenKind.{TokenKind}
 use Rattle.ppddl_lex.specs.declared.TokenKind.TheVariants as kind
+use Rattle.ppddl_lex.specs.declared.bytes.ByteClass.{ByteClass}
 use Rattle.ppddl_lex.specs.declared.bytes.ByteClass.TheVariants as byte
-use Rattle.ppddl_lex.specs.Bytes.{class_of, is_word_byte, continues_comment}
+use Rattle.ppddl_lex.specs.Bytes.{class_of, is_word_class, is_word_byte, continues_comment}
 use Rattle.ppddl_lex.specs.Lexemes.{Lexeme, tokens_from, comment_from, put_word_byte, single, token_of}
 use Rattle.ppddl_lex.proofs.Steps.{after_feed, after_blank, after_semicolon, at_left, at_right, at_word_byte, at_bad, comment_ends, comment_goes_on, class-feed}
 
@@ -104,7 +105,7 @@ no_word_at place line b bs other = (elim (class_of b) as (λ k. class_of b ≡ k
   | byte.Semicolon ↦ λ e. rw (after_semicolon place line b bs e) (no_word_behind place _ (comment_behind (suc place) line bs))
   | byte.Left ↦ λ e. rw (at_left place line b bs e) (λ k. absurd (cc))
   | byte.Right ↦ λ e. rw (at_right place line b bs e) (λ k. absurd (cc))
-  | byte.Word ↦ λ e. absurd (let yes : is_word_byte b ≡ true = rw (e, is_word_byte) refl in cc)
+  | byte.Word ↦ λ e. absurd (let passes : is_word_byte b ≡ true = ap is_word_class e in cc)
   | byte.Bad ↦ λ e. rw (at_bad place line b bs e) tt
 ]) refl
 
@@ -124,29 +125,19 @@ put_longer : (place to line : ℕ) (ls : List Lexeme) → put_word_byte place li
 put_longer place to line ls = let same : (suc place == suc place) ≡ true = search (tests, rules) in rw (same, put_word_byte) refl
 
 pub is_word_byte-true : (b : ℕ) → class_of b ≡ byte.Word → is_word_byte b ≡ true
-is_word_byte-true b e = rw (e, is_word_byte) refl
+is_word_byte-true b e = ap is_word_class e
 
-is_word_byte-false : (b : ℕ) → (class_of b ≡ byte.Word → ⊥) → is_word_byte b ≡ false
-is_word_byte-false b other = (elim (class_of b) as (λ k. class_of b ≡ k → is_word_byte b ≡ false) [
-  | byte.LineFeed ↦ λ e. rw (e, is_word_byte) refl
-  | byte.Blank ↦ λ e. rw (e, is_word_byte) refl
-  | byte.Semicolon ↦ λ e. rw (e, is_word_byte) refl
-  | byte.Left ↦ λ e. rw (e, is_word_byte) refl
-  | byte.Right ↦ λ e. rw (e, is_word_byte) refl
-  | byte.Word ↦ λ e. absurd (other e)
-  | byte.Bad ↦ λ e. rw (e, is_word_byte) refl
-]) refl
+word_class : (k : ByteClass) → is_word_class k ≡ true → k ≡ byte.Word
+word_class byte.LineFeed e = absurd (cc)
+word_class byte.Blank e = absurd (cc)
+word_class byte.Semicolon e = absurd (cc)
+word_class byte.Left e = absurd (cc)
+word_class byte.Right e = absurd (cc)
+word_class byte.Word e = refl
+word_class byte.Bad e = absurd (cc)
 
 pub class-word_byte : (b : ℕ) → is_word_byte b ≡ true → class_of b ≡ byte.Word
-class-word_byte b passes = (elim (class_of b) as (λ k. class_of b ≡ k → class_of b ≡ byte.Word) [
-  | byte.LineFeed ↦ λ e. absurd (let h : is_word_byte b ≡ false = rw (e, is_word_byte) refl in cc)
-  | byte.Blank ↦ λ e. absurd (let h : is_word_byte b ≡ false = rw (e, is_word_byte) refl in cc)
-  | byte.Semicolon ↦ λ e. absurd (let h : is_word_byte b ≡ false = rw (e, is_word_byte) refl in cc)
-  | byte.Left ↦ λ e. absurd (let h : is_word_byte b ≡ false = rw (e, is_word_byte) refl in cc)
-  | byte.Right ↦ λ e. absurd (let h : is_word_byte b ≡ false = rw (e, is_word_byte) refl in cc)
-  | byte.Word ↦ λ e. e
-  | byte.Bad ↦ λ e. absurd (let h : is_word_byte b ≡ false = rw (e, is_word_byte) refl in cc)
-]) refl
+class-word_byte b e = word_class (class_of b) e
 
 -- and before what follows it is a word that goes on as long as such bytes follow
 put_run : (place line : ℕ) (bs : List ℕ) → let n = front_len is_word_byte bs in

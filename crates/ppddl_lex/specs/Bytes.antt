@@ -20,9 +20,13 @@ class_of b =
 abbrev pub line_feeds : List ℕ → ℕ
 line_feeds bs = count_by (λ b. b == 10) bs
 
+abbrev pub is_word_class : ByteClass → Bool
+is_word_class Word = true
+is_word_class _ = false
+
 -- a byte of words
 abbrev pub is_word_byte : ℕ → Bool
-is_word_byte b = elim (class_of b) [ Word ↦ true | LineFeed ↦ false | Blank ↦ false | Semicolon ↦ false | Left ↦ false | Right ↦ false | Bad ↦ false ]
+is_word_byte b = is_word_class (class_of b)
 
 -- a byte that does not end a comment
 abbrev pub continues_comment : ℕ → Bool

@@ -23,6 +23,7 @@ pub enum ByteClass {
 }
 
 /// The class of a byte.
+#[inline]
 pub fn class_of(byte: u8) -> ByteClass
     ensures { result ≡ class_of byte }
 {
@@ -38,8 +39,9 @@ pub fn class_of(byte: u8) -> ByteClass
 }
 
 /// Whether a byte is one of a word's.
+#[inline]
 pub fn is_word_byte(byte: u8) -> bool
     ensures { result ≡ is_word_byte byte }
 {
-    matches!(class_of(byte), ByteClass::Word)
+    matches!(byte, b'!'..=b'~') && !matches!(byte, b'(' | b')' | b';')
 }

@@ -46,6 +46,8 @@ fn token(kind: TokenKind, from: usize, to: usize, line: u32) -> Token
 ///
 /// Go on from the token's `to` and `line`, since a token holds no line feed. The refusal is
 /// `BadByte`, at a byte that comes next outside comments and is not allowed there. No memory is taken.
+// Inlined, so that a loop over tokens does not hand each one over through memory.
+#[inline(always)]
 pub fn next_token(text: &[u8], place: usize, line: u32) -> Option<Result<Token, LexRefusal>>
     requires short { length text.now ≤ 1048576 }
     requires within { place ≤ length text.now }

@@ -4,10 +4,12 @@
 //! types, quantified conditions and effects, probabilistic effects, and costs. `specs/` has their meaning.
 #![tactic(auto)]
 
+pub mod laws;
 pub mod refusal;
 pub mod tree;
 
 pub use exact_fraction::Fraction;
+pub use laws::task_laws;
 pub use plain_list::{Boxed, List, Text};
 pub use refusal::{TextCode, TextRefusal};
 pub use tree::{

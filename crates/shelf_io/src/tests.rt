@@ -1,4 +1,4 @@
-//! The memory forms against a table of failing calls, and the adapters over a real file, input and output.
+//! The memory forms against a table of failing calls, and both kinds of shelf, source and sink.
 
 use super::*;
 use std::alloc::Global;
@@ -6,6 +6,40 @@ use std::process::Abort;
 use std::test::Fail;
 use std::thread::Threads;
 use std::{fs, thread};
+
+// The calls through their bounds. With no clause here, a test's own proof stays short.
+fn read<S: Shelf>(
+    alloc: Global,
+    shelf: &mut S,
+    name: &str,
+    limit: u64,
+) -> Result<Bytes, ShelfFault> {
+    match read_named(alloc, shelf, Some(name), limit)? {
+        Some(bytes) => Ok(bytes),
+        None => Err(ShelfFault::Failed),
+    }
+}
+
+fn write<S: Shelf>(
+    alloc: Global,
+    shelf: &mut S,
+    name: &str,
+    bytes: &[u8],
+) -> Result<(), WriteFault> {
+    shelf.write(alloc, name, bytes)
+}
+
+fn take<I: Source>(source: &mut I, into: &mut [u8]) -> Result<usize, Failed> {
+    source.take(into)
+}
+
+fn put<O: Sink>(sink: &mut O, from: &[u8]) -> Result<(), Failed> {
+    put_all(sink, from)
+}
+
+fn pass<G: Gate>(gate: &G) {
+    gate.pass(0);
+}
 
 // The numbers that are named, and which of the calls 1 to 4 then fail.
 const NAMED: [(&[u64], [bool; 4]); 6] = [
@@ -17,101 +51,147 @@ const NAMED: [(&[u64], [bool; 4]); 6] = [
     (&[3, 1, 3], [true, false, true, false]),
 ];
 
+fn failing_shelf(alloc: Global, numbers: &[u64]) -> Result<MemoryShelf, Fail> {
+    let mut shelf = MemoryShelf::make(alloc)?;
+    shelf.hold("task", b"old")?;
+    for number in numbers {
+        shelf.fail_at(*number)?;
+    }
+    Ok(shelf)
+}
+
+fn failing_source(alloc: Global, numbers: &[u64]) -> Result<MemorySource, Fail> {
+    let mut source = MemorySource::make(alloc)?;
+    source.fill(b"abcd")?;
+    for number in numbers {
+        source.fail_at(*number)?;
+    }
+    Ok(source)
+}
+
+fn failing_sink(alloc: Global, numbers: &[u64]) -> Result<MemorySink, Fail> {
+    let mut sink = MemorySink::make(alloc)?;
+    for number in numbers {
+        sink.fail_at(*number)?;
+    }
+    Ok(sink)
+}
+
+// Reads and writes are numbered together.
+fn shelf_fails(alloc: Global, shelf: &mut MemoryShelf, index: usize) -> bool {
+    if index % 2 == 0 {
+        read(alloc, shelf, "task", 3).is_err()
+    } else {
+        write(alloc, shelf, "plan", b"new").is_err()
+    }
+}
+
 #[test]
-fn a_memory_shelf_fails_at_the_named_calls(rt: HostRuntime) -> Result<(), Fail> {
+fn memory_forms_fail_at_the_named_calls(rt: HostRuntime) -> Result<(), Fail> {
     let alloc = rt.alloc();
     for (numbers, fails) in &NAMED {
-        let mut shelf = MemoryShelf::make(alloc)?;
-        shelf.hold("task", b"old")?;
-        for number in *numbers {
-            shelf.fail_at(*number)?;
+        let mut shelf = failing_shelf(alloc, numbers)?;
+        let mut source = failing_source(alloc, numbers)?;
+        let mut sink = failing_sink(alloc, numbers)?;
+        for (index, fails) in fails.iter().enumerate() {
+            let is_shelf = shelf_fails(alloc, &mut shelf, index);
+            let is_source = take(&mut source, &mut [0]).is_err();
+            let is_sink = put(&mut sink, b"a").is_err();
+            assert_eq!(rt;
+                [is_shelf, is_source, is_sink].as_slice(),
+                [*fails; 3].as_slice(),
+                "{numbers:?}"
+            );
         }
-        // Reads and writes are numbered together.
-        let first = shelf.read(alloc, "task", 3).is_err();
-        let second = shelf.write(alloc, "plan", b"1").is_err();
-        let third = shelf.read(alloc, "task", 3).is_err();
-        let fourth = shelf.write(alloc, "plan", b"2").is_err();
-        assert_eq!(rt;
-            [first, second, third, fourth].as_slice(),
-            fails.as_slice(),
-            "{numbers:?}"
-        );
+    }
+    Ok(())
+}
+
+// What is written, and what each read then answers.
+const WRITTEN: [(&str, &[u8]); 4] = [
+    ("coin", b"heads"),
+    ("tire", b"flat"),
+    ("coin", b"tails"),
+    ("road", b""),
+];
+
+const READ: [(&str, u64, Result<&[u8], ShelfFault>); 6] = [
+    ("coin", 5, Ok(b"tails")),
+    ("coin", 4, Err(ShelfFault::TooLong)),
+    ("tire", u64::MAX, Ok(b"flat")),
+    ("road", 0, Ok(b"")),
+    ("bench", 9, Err(ShelfFault::Failed)),
+    ("coi", 9, Err(ShelfFault::Failed)),
+];
+
+fn serves<S: Shelf>(rt: &impl Abort, alloc: Global, shelf: &mut S) -> Result<(), Fail> {
+    for (name, bytes) in &WRITTEN {
+        write(alloc, shelf, name, bytes)?;
+    }
+    for (name, limit, wanted) in &READ {
+        let answer = read(alloc, shelf, name, *limit);
+        let found = answer.as_ref().map(|bytes| bytes.as_slice());
+        assert_eq!(rt; found.ok(), wanted.ok(), "{name}");
+        assert_eq!(rt; answer.err(), wanted.err(), "{name}");
     }
     Ok(())
 }
 
 #[test]
-fn memory_streams_fail_at_the_named_calls(rt: HostRuntime) -> Result<(), Fail> {
-    let alloc = rt.alloc();
-    for (numbers, fails) in &NAMED {
-        let mut source = MemorySource::make(alloc)?;
-        source.fill(b"abcd")?;
-        let mut sink = MemorySink::make(alloc)?;
-        for number in *numbers {
-            source.fail_at(*number)?;
-            sink.fail_at(*number)?;
-        }
-        let mut given = Vec::new(alloc);
-        for fails in fails {
-            let mut piece = [0; 1];
-            assert_eq!(rt;
-                source.take(&mut piece),
-                if *fails { Err(Failed) } else { Ok(1) },
-                "{numbers:?}"
-            );
-            assert_eq!(rt;
-                sink.put(&piece),
-                if *fails { Err(Failed) } else { Ok(1) },
-                "{numbers:?}"
-            );
-            if !*fails {
-                given.push(piece[0])?;
-            }
-        }
-        // A failing take takes nothing, and so does a failing put.
-        assert_eq!(rt; b"abcd".starts_with(given.as_slice()), true);
-        assert_eq!(rt; sink.bytes(), given.as_slice());
-    }
-    Ok(())
-}
-
-#[test]
-fn a_memory_shelf_answers_what_it_holds(rt: HostRuntime) -> Result<(), Fail> {
+fn shelves_answer_what_was_written(rt: HostRuntime) -> Result<(), Fail> {
     let alloc = rt.alloc();
     let mut shelf = MemoryShelf::make(alloc)?;
-    shelf.hold("coin", b"heads")?;
-    assert_eq!(rt;
-        shelf.read(alloc, "coin", 5)?.as_slice(),
-        b"heads".as_slice()
-    );
-    assert_eq!(rt;
-        shelf.read(alloc, "coin", 4).err(),
-        Some(ShelfFault::TooLong)
-    );
-    assert_eq!(rt;
-        shelf.read(alloc, "tire", 9).err(),
-        Some(ShelfFault::Failed)
-    );
-    shelf.write(alloc, "tire", b"flat")?;
-    shelf.write(alloc, "coin", b"tails")?;
+    serves(&rt, alloc, &mut shelf)?;
     assert_eq!(rt; shelf.bytes_of("tire"), Some(b"flat".as_slice()));
-    assert_eq!(rt; shelf.bytes_of("coin"), Some(b"tails".as_slice()));
-    assert_eq!(rt; shelf.bytes_of("road"), None);
+    assert_eq!(rt; shelf.bytes_of("bench"), None);
+
+    // A new file that an earlier run left is let alone.
+    fs::write(&rt, "coin.0.part", "half")?;
+    let mut shelf = FolderShelf::make(&rt);
+    serves(&rt, alloc, &mut shelf)?;
+    assert_eq!(rt; fs::read_to_string(&rt, "coin")?.as_str(), "tails");
+    assert_eq!(rt; fs::read_to_string(&rt, "coin.0.part")?.as_str(), "half");
+    assert_eq!(rt; fs::exists(&rt, "coin.1.part")?, false);
+    assert_eq!(rt;
+        write(alloc, &mut shelf, "none/coin", b"x"),
+        Err(WriteFault::Failed)
+    );
     Ok(())
 }
 
+// All bytes of a source, in pieces of this size.
+fn taken<I: Source>(alloc: Global, source: &mut I, size: usize) -> Result<Vec<u8>, Fail> {
+    let mut piece = vec![in alloc; 0; size]?;
+    let mut bytes = Vec::new(alloc);
+    for _ in 0..100 {
+        let count = take(source, &mut piece)?;
+        for byte in piece.iter().take(count) {
+            bytes.push(*byte)?;
+        }
+    }
+    Ok(bytes)
+}
+
 #[test]
-fn a_memory_source_gives_its_bytes_in_order(rt: HostRuntime) -> Result<(), Fail> {
-    let mut source = MemorySource::make(rt.alloc())?;
-    source.fill(b"state\n")?;
-    let mut piece = [b'.'; 4];
-    assert_eq!(rt; source.take(&mut piece)?, 4);
-    assert_eq!(rt; piece.as_slice(), b"stat".as_slice());
-    assert_eq!(rt; source.take(&mut [])?, 0);
-    source.fill(b"!")?;
-    assert_eq!(rt; source.take(&mut piece)?, 3);
-    assert_eq!(rt; piece.as_slice(), b"e\n!t".as_slice());
-    assert_eq!(rt; source.take(&mut piece)?, 0);
+fn sources_give_their_bytes_in_order(rt: HostRuntime) -> Result<(), Fail> {
+    let alloc = rt.alloc();
+    for size in [1, 4, 6, 100] {
+        let mut source = MemorySource::make(alloc)?;
+        source.fill(b"sta")?;
+        source.fill(b"te\n")?;
+        assert_eq!(rt;
+            taken(alloc, &mut source, size)?.as_slice(),
+            b"state\n".as_slice()
+        );
+        let mut source = InputSource::make(b"state\n".as_slice());
+        assert_eq!(rt;
+            taken(alloc, &mut source, size)?.as_slice(),
+            b"state\n".as_slice()
+        );
+    }
+    // A test's standard input is at its end.
+    let mut source = InputSource::make(rt.stdin());
+    assert_eq!(rt; taken(alloc, &mut source, 8)?.as_slice(), b"".as_slice());
     Ok(())
 }
 
@@ -120,87 +200,34 @@ fn a_full_memory_sink_fails(rt: HostRuntime) -> Result<(), Fail> {
     let alloc = rt.alloc();
     let mut sink = MemorySink::make(alloc)?;
     let much = vec![in alloc; 7; (16 << 20) - 1]?;
-    put_all(&mut sink, &much)?;
-    assert_eq!(rt; put_all(&mut sink, b"ab"), Err(Failed));
+    put(&mut sink, &much)?;
+    assert_eq!(rt; put(&mut sink, b"ab"), Err(Failed));
     assert_eq!(rt; sink.bytes().len(), 16 << 20);
     assert_eq!(rt; sink.bytes().last(), Some(&b'a'));
-    assert_eq!(rt; sink.put(b"c"), Err(Failed));
-    assert_eq!(rt; sink.put(b""), Ok(0));
+    put(&mut sink, b"")?;
     Ok(())
 }
 
-#[test]
-fn a_folder_shelf_holds_real_files(rt: HostRuntime) -> Result<(), Fail> {
-    let alloc = rt.alloc();
-    let mut shelf = FolderShelf::make(&rt);
-    assert_eq!(rt;
-        shelf.read(alloc, "plan", 9).err(),
-        Some(ShelfFault::Failed)
-    );
-    // A new file of an earlier run is left alone.
-    fs::write(&rt, "plan.0.part", "half")?;
-    shelf.write(alloc, "plan", b"first")?;
-    shelf.write(alloc, "plan", b"second")?;
-    assert_eq!(rt; fs::read_to_string(&rt, "plan")?.as_str(), "second");
-    assert_eq!(rt;
-        shelf.read(alloc, "plan", 6)?.as_slice(),
-        b"second".as_slice()
-    );
-    assert_eq!(rt;
-        shelf.read(alloc, "plan", 5).err(),
-        Some(ShelfFault::TooLong)
-    );
-    assert_eq!(rt; fs::read_to_string(&rt, "plan.0.part")?.as_str(), "half");
-    assert_eq!(rt; fs::exists(&rt, "plan.1.part")?, false);
-    assert_eq!(rt;
-        shelf.write(alloc, "none/plan", b"x"),
-        Err(WriteFault::Failed)
-    );
-    Ok(())
-}
-
-#[test]
-fn standard_input_ends_and_standard_output_takes(rt: HostRuntime) -> Result<(), Fail> {
-    let mut source = InputSource::make(rt.stdin());
-    assert_eq!(rt; source.take(&mut [0; 8])?, 0);
-    let mut sink = OutputSink::make(rt.stdout());
-    put_all(&mut sink, b"put\n")?;
-    Ok(())
-}
-
-// Each form through its bound, and the streams in two threads.
-fn all_calls<R: Threads + Abort, S: Shelf, I: Source + Send, O: Sink + Send, G: Gate>(
+// The source in one thread and the sink in another.
+fn side_by_side<R: Threads, I: Source + Send, O: Sink + Send>(
     rt: &R,
-    alloc: Global,
-    shelf: &mut S,
     source: &mut I,
     sink: &mut O,
-    gate: &G,
-) -> Result<Option<Bytes>, Fail> {
-    gate.pass(0);
-    shelf.write(alloc, "road", b"wet")?;
-    let mut piece = [0; 4];
-    let (taken, put) = thread::join(rt, || source.take(&mut piece), || put_all(sink, b"dry\n"));
-    assert_eq!(rt; taken?, 0);
-    put?;
-    Ok(read_named(alloc, shelf, Some("road"), 3)?)
+) -> bool {
+    let (taken, put) = thread::join(rt, || take(source, &mut [0; 4]), || put(sink, b"dry\n"));
+    taken == Ok(0) && put == Ok(())
 }
 
 #[test]
-fn each_form_serves_its_bound(rt: HostRuntime) -> Result<(), Fail> {
+fn streams_go_into_threads(rt: HostRuntime) -> Result<(), Fail> {
     let alloc = rt.alloc();
+    pass(&FreeGate);
     let mut source = MemorySource::make(alloc)?;
     let mut sink = MemorySink::make(alloc)?;
-    let mut shelf = MemoryShelf::make(alloc)?;
-    let read = all_calls(&rt, alloc, &mut shelf, &mut source, &mut sink, &FreeGate)?;
-    assert_eq!(rt; read, Some(Bytes::from_slice(alloc, b"wet")?));
+    assert!(rt; side_by_side(&rt, &mut source, &mut sink));
     assert_eq!(rt; sink.bytes(), b"dry\n".as_slice());
-
     let mut source = InputSource::make(rt.stdin());
     let mut sink = OutputSink::make(rt.stdout());
-    let mut shelf = FolderShelf::make(&rt);
-    let read = all_calls(&rt, alloc, &mut shelf, &mut source, &mut sink, &FreeGate)?;
-    assert_eq!(rt; read, Some(Bytes::from_slice(alloc, b"wet")?));
-    assert_eq!(rt; read_named(alloc, &mut shelf, None, 3)?, None);
+    assert!(rt; side_by_side(&rt, &mut source, &mut sink));
     Ok(())
 }

@@ -1,0 +1,85 @@
+-- Where a text is cut, by places.
+use Rattle.std.proofs.Common.{◌≡◌, ℕ, zero, suc, ◌+◌, ◌-◌, ◌<◌, Bool, true, false, cond, ◌&&◌, eqb, List, [], ◌∷◌, ◌++◌, length, get_or, take, drop, Option, Some, None, option_map, refl, ap, sym, ◌∙◌, arith, inl, inr, MatchOption, nat_eq}
+use Rattle.std.specs.Prelude.{length}
+use Rattle.std.specs.Option.{option_copied}
+use Rattle.std.specs.Borrow.{Bor}
+use Rattle.std.specs.Cmp.Lexicographic.{pointwise}
+use Rattle.std.specs.List.{list_any}
+use Rattle.std.proofs.Math.Seq.{take-length}
+use Rattle.std.proofs.lemmas.Bool.{eq-eqb, ne_eqb, eqb-true}
+use Rattle.std.proofs.lemmas.Bool.Decides.{eqb_tells}
+use Rattle.std.proofs.lemmas.List.{length-drop}
+use Rattle.certificate.specs.Decoding.{behind, cut}
+use Rattle.certificate.proofs.Steps.{some_is, kept, mapped, or_parts}
+
+behind_is : (front text : List ℕ) → behind front text ≡ cond (pointwise nat_eq (take (length front) text) front) (Some (drop (length front) text)) None
+behind_is [] text = refl
+behind_is (b ∷ front) [] = refl
+behind_is (b ∷ front) (c ∷ text) =
+    elim (eqb c b) as (λ v. cond v (behind front text) None ≡ cond (v && pointwise nat_eq (take (length front) text) front) (Some (drop (length front) text)) None) [
+      | true ↦ behind_is front text
+      | false ↦ refl
+    ]
+
+pub behind_found : (front text : List ℕ) (found : Option (Bor (List ℕ)))
+    → MatchOption found (pointwise nat_eq (take (length front) text) front ≡ false)
+    (λ rest. (pointwise nat_eq (take (length front) text) front ≡ true) × (rest.now ≡ drop (length front) text) × (length rest.now + length front ≡ length text))
+    → option_copied found ≡ behind front text
+behind_found front text None is = sym (rw (behind_is front text, is) refl)
+behind_found front text (Some rest) is = rw (behind_is front text, is.0, is.1) refl
+
+pub cut_first : (c : ℕ) (text : List ℕ) (i : ℕ) → i < length text → ((k : ℕ) → k < i → get_or text k 0 ≡ c → ⊥) → get_or text i 0 ≡ c → cut c text ≡ Some (take i text, drop (suc i) text)
+cut_first c [] i lt before here = absurd (omega arith)
+cut_first c (b ∷ text) zero lt before here = rw (eq-eqb b c here) refl
+cut_first c (b ∷ text) (suc i) lt before here =
+    let apart : eqb b c ≡ false = ne_eqb b c (λ e. before 0 (omega arith) e) in
+    let rest : cut c text ≡ Some (take i text, drop (suc i) text) = cut_first c text i (omega arith) (λ k h. before (suc k) (omega arith)) here in
+    rw (apart, rest) refl
+
+pub cut_none : (c : ℕ) (text : List ℕ) → ((k : ℕ) → k < length text → get_or text k 0 ≡ c → ⊥) → cut c text ≡ None
+cut_none c [] apart = refl
+cut_none c (b ∷ text) apart =
+    let here : eqb b c ≡ false = ne_eqb b c (λ e. apart 0 (omega arith) e) in
+    let rest : cut c text ≡ None = cut_none c text (λ k h. apart (suc k) (omega arith)) in
+    rw (here, rest) refl
+
+-- what a slice from n on holds
+pub take_rest : (n : ℕ) (text : List ℕ) → take (length text - n) (drop n text) ≡ drop n text
+take_rest n text = rw (← length-drop n text) (take-length (drop n text))
+
+-- what stands behind a front
+pub behind_is_rest : (front text rest : List ℕ) → behind front text ≡ Some rest → text ≡ front ++ rest
+behind_is_rest [] text rest e = some_is text rest e
+behind_is_rest (b ∷ front) [] rest e = absurd cc
+behind_is_rest (b ∷ front) (c ∷ text) rest e =
+    let p = kept (eqb c b) (behind front text) rest e in
+    let head : c ≡ b = eqb-true c b p.0 in
+    rw (head, behind_is_rest front text rest p.1) refl
+
+pub behind_again : (front rest : List ℕ) → behind front (front ++ rest) ≡ Some rest
+behind_again [] rest = refl
+behind_again (b ∷ front) rest = rw (eq-eqb b b refl) (behind_again front rest)
+
+-- a text that was cut is its parts with the byte between them
+pub cut_is_parts : (c : ℕ) (text front rest : List ℕ) → cut c text ≡ Some (front, rest) → text ≡ front ++ c ∷ rest
+cut_is_parts c [] front rest e = absurd cc
+cut_is_parts c (b ∷ text) front rest e =
+    let joined : List ℕ × List ℕ → List ℕ = λ p. p.0 ++ c ∷ p.1 in
+    elim (eqb_tells b c) [
+      | inl here ↦ (
+          let at : Some ([], text) ≡ Some (front, rest) = rw here.0 at e in
+          ap (λ (x : ℕ). x ∷ text) here.1 ∙ ap joined (some_is ([], text) (front, rest) at)
+          )
+      | inr apart ↦ (
+          let later : option_map (λ (p : List ℕ × List ℕ). (b ∷ p.0, p.1)) (cut c text) ≡ Some (front, rest) = rw apart.0 at e in
+          let p = mapped (λ (p : List ℕ × List ℕ). (b ∷ p.0, p.1)) (cut c text) (front, rest) later in
+          ap (λ (x : List ℕ). b ∷ x) (cut_is_parts c text p.0.0 p.0.1 p.1) ∙ ap joined p.2
+          )
+    ]
+
+-- a text without the byte, then the byte and more
+pub cut_again : (c : ℕ) (front rest : List ℕ) → list_any (λ b. eqb b c) front ≡ false → cut c (front ++ c ∷ rest) ≡ Some (front, rest)
+cut_again c [] rest lacks = rw (eq-eqb c c refl) refl
+cut_again c (b ∷ front) rest lacks =
+    let p = or_parts (eqb b c) (list_any (λ b. eqb b c) front) lacks in
+    rw (p.0, cut_again c front rest p.1) refl

@@ -1,0 +1,47 @@
+-- Lines and their refusals, as the code finds them.
+use Rattle.std.proofs.Common.{◌≡◌, ℕ, eqb, false, List, length, Option, Some, None, option_map, Result, Ok, Err, refl, sym, ap, ◌∙◌}
+use Rattle.std.specs.Borrow.{Bor}
+use Rattle.std.specs.Option.{ok_or}
+use Rattle.certificate.specs.declared.refusal.CertRefusal.{CertRefusal}
+use Rattle.certificate.specs.declared.refusal.CertRefusal.TheVariants.{Syntax}
+use Rattle.certificate.specs.Decoding.{cut, parts}
+use Rattle.certificate.specs.Reading.{line_at, or_syntax, nothing_at}
+use Rattle.certificate.specs.Answers.{Gives, Refuses}
+use Rattle.certificate.proofs.Parts.{HasFirst-parts, parts_cut, parts_whole, line_found}
+
+abbrev done : {X : Type 0} → X → Result X CertRefusal
+done x = Ok x
+
+abbrev failed : {X : Type 0} → CertRefusal → Result X CertRefusal
+failed e = Err e
+
+ok_is : {X : Type 0} (x y : X) → done x ≡ done y → x ≡ y
+ok_is x y e = cc
+
+err_is : {X : Type 0} (d e : CertRefusal) → failed {X = X} d ≡ failed e → d ≡ e
+err_is d e same = cc
+
+pub line_given : (k : ℕ) (bytes : List ℕ) (found : Option (Bor (List ℕ) × Bor (List ℕ))) → option_map (λ p. (p.0.now, p.1.now)) found ≡ cut 10 bytes
+    → Gives (λ p. (p.0.now, parts 10 p.1.now)) (ok_or found (Syntax k)) (line_at k (parts 10 bytes))
+line_given k bytes None e = rw (parts_whole 10 bytes (sym e)) refl
+line_given k bytes (Some p) e = rw (parts_cut 10 bytes p.0.now p.1.now (sym e)) (line_found k p.0.now p.1.now)
+
+-- a value that `ok_or` passed on
+pub passed : {X Y : Type 0} (view : X → Y) (o : Option X) (refusal : CertRefusal) (x : X) (read : Option Y) → Ok x ≡ ok_or o refusal → option_map view o ≡ read → Some (view x) ≡ read
+passed view None refusal x read e is = absurd cc
+passed {X} view (Some y) refusal x read e is = ap (λ (z : X). Some (view z)) (ok_is x y e) ∙ is
+
+-- a refusal that `ok_or` made
+pub refused : {X Y Z : Type 0} (view : X → Z) (o : Option X) (k : ℕ) (refusal : CertRefusal) (found : Option Z) (read : Option Y) → Err refusal ≡ ok_or o (Syntax k) → option_map view o ≡ found → (None ≡ found → read ≡ None) → Refuses refusal (or_syntax k read)
+refused {X} view None k refusal found read e is none =
+    let same : refusal ≡ Syntax k = err_is {X = X} refusal (Syntax k) e in
+    rw (same, none is) refl
+refused view (Some x) k refusal found read e is none = absurd cc
+
+-- bytes behind `end`
+pub something : (k : ℕ) (bytes : List ℕ) → eqb (length bytes) 0 ≡ false → nothing_at k (parts 10 bytes) ≡ Err (Syntax k)
+something k bytes some = by (cut 10 bytes) refl
+  where
+    by : (o : Option (List ℕ × List ℕ)) → cut 10 bytes ≡ o → nothing_at k (parts 10 bytes) ≡ Err (Syntax k)
+    by None is = rw (parts_whole 10 bytes is, some) refl
+    by (Some p) is = let next = HasFirst-parts 10 p.1 in rw (parts_cut 10 bytes p.0 p.1 is, next.is) refl

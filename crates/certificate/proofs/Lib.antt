@@ -1,0 +1,15 @@
+pub mod Steps
+pub mod Cuts
+pub mod Decimals
+pub mod Lists
+pub mod Parts
+pub mod Given
+pub mod Rising
+pub mod Atoms
+pub mod RowLoop
+pub mod Names
+pub mod RowLaws
+pub mod TextLaws
+pub mod Appended
+pub mod Again
+pub mod Long

@@ -1,0 +1,63 @@
+//! Why bytes are no certificate, and why a certificate was not written.
+
+ghost use Rattle.std.specs.Prelude.{◌≡◌};
+ghost use Rattle.certificate.specs.declared.refusal.CertRefusal.TheVariants.{Memory};
+ghost use Rattle.certificate.specs.declared.refusal.WriteRefusal.TheVariants as unwritten;
+
+use std::alloc::{AllocError, AllocFailed};
+use thiserror::Error;
+
+/// Why bytes are no certificate. Lines count from 1; the first line that is wrong decides.
+#[derive(Clone, Copy, Debug, PartialEq, Eq, Error)]
+pub enum CertRefusal {
+    /// The line is not of the form of its place, lacks its line feed, or stands behind `end`.
+    #[error("Syntax")]
+    Syntax { line: u32 },
+    /// The atoms of the row do not rise, or the row is not above the one before it.
+    #[error("Order")]
+    Order { line: u32 },
+    /// `end` stands before all rows, or a row stands in its place.
+    #[error("Count")]
+    Count { line: u32 },
+    /// More than 67,108,864 bytes.
+    #[error("TooLong")]
+    TooLong,
+    /// Want of memory.
+    #[error("Memory")]
+    Memory,
+}
+
+impl From<AllocError> for CertRefusal {
+    ghost from_gives = { λ _ e. e ≡ Memory };
+
+    fn from(_error: AllocError) -> CertRefusal {
+        CertRefusal::Memory
+    }
+}
+
+impl<T: Drop> From<AllocFailed<T>> for CertRefusal {
+    ghost from_gives = { λ _ e. e ≡ Memory };
+
+    fn from(_error: AllocFailed<T>) -> CertRefusal {
+        CertRefusal::Memory
+    }
+}
+
+/// Why a certificate was not written.
+#[derive(Clone, Copy, Debug, PartialEq, Eq, Error)]
+pub enum WriteRefusal {
+    /// The text is above 67,108,864 bytes.
+    #[error("TooLong")]
+    TooLong,
+    /// Want of memory.
+    #[error("Memory")]
+    Memory,
+}
+
+impl From<AllocError> for WriteRefusal {
+    ghost from_gives = { λ _ e. e ≡ unwritten.Memory };
+
+    fn from(_error: AllocError) -> WriteRefusal {
+        WriteRefusal::Memory
+    }
+}
