@@ -7,3 +7,6 @@ mod upper_word;
 
 pub use mean::{down, up};
 pub use upper_word::{UpperWord, word_laws};
+
+#[cfg(test)]
+mod tests;

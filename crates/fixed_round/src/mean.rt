@@ -13,7 +13,8 @@ pub fn down(weights: &[u64], costs: &[u64], values: &[u64], den: u64) -> u64
     ensures floor { IsFloor (weighted weights.now costs.now values.now) den result }
     ensures bounded { result ≤ 11 * 10 ^ 13 }
 {
-    (weighted_sum(weights, costs, values, den) / u128::from(den)) as u64
+    let total = weighted_sum(weights, costs, values, den);
+    (total / u128::from(den)) as u64
 }
 
 /// The mean of `cost + value` over the outcomes, rounded up.
@@ -25,7 +26,8 @@ pub fn up(weights: &[u64], costs: &[u64], values: &[u64], den: u64) -> u64
     ensures ceiling { IsCeiling (weighted weights.now costs.now values.now) den result }
     ensures bounded { result ≤ 11 * 10 ^ 13 }
 {
-    weighted_sum(weights, costs, values, den).div_ceil(u128::from(den)) as u64
+    let total = weighted_sum(weights, costs, values, den);
+    total.div_ceil(u128::from(den)) as u64
 }
 
 /// The sum of `weight * (cost + value)` over the outcomes.

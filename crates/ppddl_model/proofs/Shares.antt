@@ -59,15 +59,14 @@ denominators_positive chances sum =
 
 -- ---- effects
 
--- what holds of the denominator of each chance, but for those within the effects of the branches
+-- what holds of every denominator in the branches holds of those of their own chances
 All-branch_chances : (P : ℕ → Type 0) {n : _} (branches : Row_of-Branch n) → All P (denominators_branches branches)
     → All (λ (chance : Fraction). P chance.den) (branch_chances branches)
 All-branch_chances P end_of-Branch each = All-nil (λ (chance : Fraction). P chance.den)
 All-branch_chances P (more_of-Branch chance e branches) each =
-    All-cons (λ (c : Fraction). P c.den) chance (branch_chances branches) (All-head P chance.den (denominators e ++ denominators_branches branches) each)
-    (All-branch_chances P branches
-    (All-append_right P (denominators e) (denominators_branches branches)
-    (All-tail P chance.den (denominators e ++ denominators_branches branches) each)))
+    let later : List ℕ = denominators e ++ denominators_branches branches in
+    All-cons (λ (c : Fraction). P c.den) chance (branch_chances branches) (All-head P chance.den later each)
+    (All-branch_chances P branches (All-append_right P (denominators e) (denominators_branches branches) (All-tail P chance.den later each)))
 
 shares-is_total : (w : World) (den : ℕ) {n : _} (branches : Row_of-Branch n) → shares w den branches ≡ total (share den) (branch_chances branches)
 shares-is_total w den end_of-Branch = refl
@@ -98,11 +97,11 @@ module _ (w : World) (den : ℕ) where
         → All (λ d. d ∣ den) (denominators_branches branches) → BranchesHaveShares w den branches
     branches_are_shares end_of-Branch sums divide = tt
     branches_are_shares (more_of-Branch chance e branches) sums divide =
-        let later : All (λ d. d ∣ den) (denominators e ++ denominators_branches branches)
-        = All-tail (λ d. d ∣ den) chance.den (denominators e ++ denominators_branches branches) divide in (
-          share-times_den den chance (All-head (λ d. d ∣ den) chance.den (denominators e ++ denominators_branches branches) divide),
-          sums_are_shares e sums.0 (All-append_left (λ d. d ∣ den) (denominators e) (denominators_branches branches) later),
-          branches_are_shares branches sums.1 (All-append_right (λ d. d ∣ den) (denominators e) (denominators_branches branches) later),
+        let later : List ℕ = denominators e ++ denominators_branches branches in
+        let rest : All (λ d. d ∣ den) later = All-tail (λ d. d ∣ den) chance.den later divide in (
+          share-times_den den chance (All-head (λ d. d ∣ den) chance.den later divide),
+          sums_are_shares e sums.0 (All-append_left (λ d. d ∣ den) (denominators e) (denominators_branches branches) rest),
+          branches_are_shares branches sums.1 (All-append_right (λ d. d ∣ den) (denominators e) (denominators_branches branches) rest),
         )
 
 mutual

@@ -1,13 +1,14 @@
--- The laws of planning tasks, as statements, besides those that the process of a task has as a decision process.
---     OutcomesSumToPower       the weights of an effect's outcomes sum to the denominator to the power of its draws
+-- The laws of planning tasks, as statements, besides those of the decision process that a task is.
+--     OutcomesSumToPower       the weights of an effect's outcomes sum to the denominator to the power of the effect's draws
 --     StepsSumToDenominator    so those of each step sum to the denominator of steps
 --     StepsCostAtLeast         each outcome of an open instance costs at least the least step cost
---     PoliciesEnd              the chance that a balanced policy goes on for n steps, times n and the least step cost, is at most what its start reads
+--     PoliciesEnd              n times the least step cost times the chance that a balanced policy goes on after n steps is at most
+--                              the upper reading of the state
 --     StartsSumToDenominator   the weights of the starts sum to their denominator
 --     StepDenIsPositive, StartDenIsPositive
---                              the denominators of steps and of starts are positive
+--                              the denominators of steps and of starts are not 0 where those of the probabilities are not
 --     ChancesAreProper, StartsAreProper, DenominatorsArePositive
---                              what follows where the chances of each `probabilistic` sum to at most 1
+--                              the premises of these hold where the chances of each `probabilistic` sum to at most 1
 use Rattle.std.specs.Prelude.{◌≡◌, ℕ, ◌*◌, ◌^◌, ◌<◌, ◌≤◌, Option}
 use Rattle.weighted.specs.Mean.{total}
 use Rattle.decision_process.specs.Process.{HasDenominator, CostsAtLeast}
