@@ -13,3 +13,4 @@ pub mod TextLaws
 pub mod Appended
 pub mod Again
 pub mod Long
+pub mod Reserved

@@ -1,7 +1,6 @@
 //! Certificates of version 1 as text, both ways.
 #![tactic(auto)]
 
-mod fields;
 mod laws;
 mod model;
 mod reading;
@@ -14,3 +13,6 @@ pub use plain_list::{Bytes, List, Text};
 pub use reading::read;
 pub use refusal::{CertRefusal, WriteRefusal};
 pub use writing::write;
+
+#[cfg(test)]
+mod tests;

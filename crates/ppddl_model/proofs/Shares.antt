@@ -131,7 +131,8 @@ mutual
 
 -- ---- items of `:init`
 
-item_divides : (den : ℕ) (i : InitItem) → All (λ d. d ∣ den) (item_denominators i) → All (λ (chance : Fraction). chance.den ∣ den) (item_chances i)
+item_divides : (den : ℕ) (i : InitItem) → All (λ d. d ∣ den) (item_denominators i)
+    → All (λ (chance : Fraction). chance.den ∣ den) (item_chances i)
 item_divides den (item.Fact a) divide = All-nil (λ (chance : Fraction). chance.den ∣ den)
 item_divides den (item.Chance branches) divide =
     All-map (λ (chance : Fraction). chance.den ∣ den) (λ (branch : InitBranch). branch.chance) branches

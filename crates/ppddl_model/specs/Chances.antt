@@ -1,10 +1,12 @@
 -- What the chances of a task must be, so that the weights of its steps and starts add up.
 --     share whole chance            the chance as a number of shares of the whole
---     SumWithinOne chances          the chances sum to at most 1: over some common multiple of their denominators, their shares are at most it
+--     branch_chances, item_chances  the chances of the branches of a `probabilistic`, in an effect and in `:init`
+--     SumWithinOne chances          the chances sum to at most 1: their shares of some positive common multiple of the denominators are at most it
 --     SumsWithinOne e               so do those of each `probabilistic` in an effect
 --     AllSumWithinOne task          so do those of each `probabilistic` in a task
---     HasProperChances task         those of each effect of the domain are shares of the common denominator and sum to at most it
---     HasProperStarts task          and so do those of each item of `:init`
+--     HasProperChances task         those of each `probabilistic` in the actions are shares of the common denominator and sum to at most it
+--     ItemHasShares den i           the chances of an item of `:init` are shares of den and sum to at most it
+--     HasProperStarts task          so are those of each item of `:init`, of the common denominator
 --     HasPositiveDenominators task  no probability has the denominator 0
 use Rattle.std.specs.Prelude.{◌≡◌, ℕ, ◌*◌, ◌/◌, ◌<◌, ◌≤◌, All, List, [], ◌∷◌, map}
 use Rattle.std.specs.Int.{◌∣◌}
@@ -59,7 +61,7 @@ abbrev mutual
 
 pub record AllSumWithinOne (task : Task) : Type 0 where
   pub actions : All (λ (a : Action). SumsWithinOne a.effect) task.domain.actions
-  pub init : All (λ (item : InitItem). SumWithinOne (item_chances item)) task.problem.init
+  pub init : All (λ (i : InitItem). SumWithinOne (item_chances i)) task.problem.init
 
 abbrev pub ItemHasShares : ℕ → InitItem → Type 0
 ItemHasShares den i =
@@ -73,4 +75,4 @@ HasProperStarts task = All (ItemHasShares (common_denominator task)) task.proble
 
 pub record HasPositiveDenominators (task : Task) : Type 0 where
   pub actions : All (λ (a : Action). All (λ d. 0 < d) (denominators a.effect)) task.domain.actions
-  pub init : All (λ (item : InitItem). All (λ d. 0 < d) (item_denominators item)) task.problem.init
+  pub init : All (λ (i : InitItem). All (λ d. 0 < d) (item_denominators i)) task.problem.init

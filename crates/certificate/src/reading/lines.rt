@@ -1,0 +1,26 @@
+//! Lines, which line feeds end.
+
+ghost use Rattle.std.specs.Prelude.{◌≡◌};
+ghost use Rattle.certificate.specs.Decoding.{parts};
+ghost use Rattle.certificate.specs.Reading.{line_at, nothing_at};
+ghost use Rattle.certificate.specs.Answers.{Gives};
+
+use super::fields::cut;
+use crate::refusal::CertRefusal;
+
+/// The line with this number and what stands behind its line feed.
+pub fn line_at(line: u32, bytes: &[u8]) -> Result<(&[u8], &[u8]), CertRefusal>
+    ensures { Gives (λ found. (found.0.now, parts 10 found.1.now)) result (line_at line (parts 10 bytes.now)) }
+{
+    cut(b'\n', bytes).ok_or(CertRefusal::Syntax { line })
+}
+
+/// Checks that behind `end` stands nothing.
+pub fn nothing_at(line: u32, bytes: &[u8]) -> Result<(), CertRefusal>
+    ensures { result ≡ nothing_at line (parts 10 bytes.now) }
+{
+    if !bytes.is_empty() {
+        return Err(CertRefusal::Syntax { line });
+    }
+    Ok(())
+}
