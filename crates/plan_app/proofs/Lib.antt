@@ -1,0 +1,17 @@
+pub mod Bits
+pub mod Lists
+pub mod Zips
+pub mod Effects
+pub mod Facts
+pub mod Named
+pub mod Rows
+pub mod Backups
+pub mod Thin
+pub mod Packing
+pub mod Readings
+pub mod Checked
+pub mod Verdict
+pub mod Coin
+pub mod Endings
+pub mod Enclosed
+pub mod Statuses

@@ -1,0 +1,26 @@
+-- Sets of items as numbers.
+--     bits_where f xs            the number whose bit k says whether the item of xs at k passes f
+--     is_known names text        whether the text is that of one of the names' atoms, `(NAME)`
+--     bits_of_text names text    the bits of the names whose atom has this text
+--     bits_of_texts names texts  the bits of the names whose atom has one of these texts
+use Rattle.std.specs.Prelude.{ℕ, ◌+◌, ◌*◌, Bool, true, false, cond, List, [], ◌∷◌}
+use Rattle.std.specs.List.{list_any}
+use Rattle.certificate.specs.Names.{list_text}
+use Rattle.ppddl_model.specs.State.{Name, same_name}
+use Rattle.plan_app.specs.Values.{has_text}
+
+abbrev pub bits_where : {X : Type 0} → (X → Bool) → List X → ℕ
+bits_where f [] = 0
+bits_where f (x ∷ xs) = bits_where f xs * 2 + cond (f x) 1 0
+
+abbrev pub is_atom_of : List ℕ → Name → Bool
+is_atom_of text name = same_name (list_text (name ∷ [])) text
+
+abbrev pub is_known : List Name → List ℕ → Bool
+is_known names text = list_any (is_atom_of text) names
+
+abbrev pub bits_of_text : List Name → List ℕ → ℕ
+bits_of_text names text = bits_where (is_atom_of text) names
+
+abbrev pub bits_of_texts : List Name → List (List ℕ) → ℕ
+bits_of_texts names texts = bits_where (λ name. has_text texts (name ∷ [])) names

@@ -1,0 +1,10 @@
+pub mod Values
+pub mod Balanced
+pub mod Words
+pub mod Texts
+pub mod Verdict
+pub mod Ending
+pub mod Bits
+pub mod Packed
+pub mod Table
+pub mod Laws

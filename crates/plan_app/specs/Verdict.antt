@@ -1,0 +1,42 @@
+-- What the bytes of a planning text and of a certificate say.
+--     IsTooLong domain            the text has more than 1,048,576 bytes
+--     IsRefused domain            it is short enough and no thin text
+--     IsThin domain task charges  it is a thin text of this task, with these charges
+--     IsDecoded f c               f is the text of the certificate c, within 67,108,864 bytes
+--     IsAccepted domain f         the text is thin, and f is the text of a balanced certificate for its task
+--     IsRejected domain f         the text is thin, and f is no such text
+-- A thin text has a goal reward, which is the penalty. There is no step cost.
+use Rattle.std.specs.Prelude.{◌≡◌, ℕ, ◌<◌, ◌≤◌, List, length, Option, Some, None}
+use Rattle.certificate.specs.Content.{Content, IsTextOf, most_bytes}
+use Rattle.ppddl_model.specs.declared.tree.Task.{Task}
+use Rattle.ppddl_model.specs.Steps.{Charges, charges_of}
+use Rattle.ppddl_reader.specs.ThinText.{task_of}
+use Rattle.plan_app.specs.Balanced.{IsBalancedFor}
+
+abbrev pub most_text : ℕ
+most_text = 1048576
+
+abbrev pub charged_by : Task → Option Charges
+charged_by = charges_of (record { penalty = None; step_cost = 0 })
+
+abbrev pub IsTooLong : List ℕ → Type 0
+IsTooLong domain = most_text < length domain
+
+pub record IsRefused (domain : List ℕ) : Type 0 where
+  pub short : length domain ≤ most_text
+  pub not_thin : task_of domain ≡ None
+
+pub record IsThin (domain : List ℕ) (task : Task) (charges : Charges) : Type 0 where
+  pub short : length domain ≤ most_text
+  pub thin : task_of domain ≡ Some task
+  pub charged : charged_by task ≡ Some charges
+
+pub record IsDecoded (f : List ℕ) (c : Content) : Type 0 where
+  pub text : IsTextOf f c
+  pub within : length f ≤ most_bytes
+
+abbrev pub IsAccepted : List ℕ → List ℕ → Type 0
+IsAccepted domain f = (task : Task) × (charges : Charges) × (c : Content) × IsThin domain task charges × IsDecoded f c × IsBalancedFor task charges c
+
+abbrev pub IsRejected : List ℕ → List ℕ → Type 0
+IsRejected domain f = (task : Task) × (charges : Charges) × IsThin domain task charges × ((c : Content) → IsDecoded f c → IsBalancedFor task charges c → ⊥)

@@ -1,0 +1,20 @@
+-- Requests: what the words of the command line ask for, which is to check a certificate for a planning text.
+--     is_plain w          a word that is not empty and does not begin with `-`
+--     Names               the names of a planning text and of a certificate
+--     request_of words    those of `check DOMAIN --cert F` with plain words DOMAIN and F; any other words have no request
+use Rattle.std.specs.Prelude.{ℕ, Bool, true, false, not, ◌&&◌, cond, nat_eq, List, [], ◌∷◌, Option, Some, None, codes}
+use Rattle.std.specs.Str.{bytes_eq}
+
+abbrev pub is_plain : List ℕ → Bool
+is_plain [] = false
+is_plain (b ∷ bs) = not (nat_eq b 45)
+
+pub record Names : Type 0 where
+  pub domain : List ℕ
+  pub certificate : List ℕ
+
+abbrev pub request_of : List (List ℕ) → Option Names
+request_of (command ∷ domain ∷ option ∷ certificate ∷ []) =
+    cond (bytes_eq command (codes "check") && is_plain domain && bytes_eq option (codes "--cert") && is_plain certificate)
+    (Some (record { domain = domain; certificate = certificate })) None
+request_of words = None

@@ -1,0 +1,52 @@
+//! Whether a certificate is balanced for the task of a thin text.
+//!
+//! The task is packed into plain numbers: a state is a number whose bit k says whether the atom of action k
+//! holds. Each row is then tested against the rows of its next states.
+
+ghost use Rattle.std.specs.Prelude.{◌≡◌, ◌↔◌, map, IfOk, IsTrue};
+ghost use Rattle.ppddl_reader.specs.ThinTask.{IsThinTask};
+ghost use Rattle.plan_app.specs.Balanced.{IsBalancedFor};
+ghost use Rattle.plan_app.specs.Table.{row_bits, IsBalancedBy};
+
+mod bits;
+mod packed;
+mod rows;
+mod step;
+mod table;
+
+use crate::checker::packed::Packed;
+use crate::checker::rows::{are_balanced, is_interval};
+use crate::checker::table::Table;
+use certificate::Certificate;
+use ppddl_model::Task;
+use std::alloc::{AllocError, Global};
+
+/// Whether the certificate is balanced for the task of a thin text, with this penalty and no step cost.
+pub(crate) fn is_balanced(
+    alloc: Global,
+    task: &Task,
+    penalty: u64,
+    certificate: &Certificate,
+) -> Result<bool, AllocError>
+    requires { IsThinTask task.now }
+    ensures { IfOk result (λ balanced. IsTrue balanced ↔ IsBalancedFor task.now (record { penalty = penalty; step_cost = 0 }) certificate.now) }
+{
+    let packed = Packed::new(alloc, task)?;
+    match Table::new(alloc, packed.names.as_slice(), certificate.rows())? {
+        None => Ok(false),
+        Some(table) => Ok(is_balanced_by(&packed, &table, penalty, certificate)),
+    }
+}
+
+/// Whether the penalty, each row and the interval are right, by the table of the rows.
+fn is_balanced_by(packed: &Packed, table: &Table, penalty: u64, certificate: &Certificate) -> bool
+    requires { table.now.keys.items ≡ map (row_bits packed.now.names) certificate.now.rows }
+    ensures { IsTrue result ↔ IsBalancedBy packed.now table.now penalty certificate.now }
+{
+    certificate.penalty() == penalty
+        && are_balanced(packed, table, penalty, certificate.rows())
+        && is_interval(packed, table, penalty, certificate)
+}
+
+#[cfg(test)]
+mod tests;

@@ -1,0 +1,89 @@
+//! Whether the values and the acts of rows follow from the values of the next states.
+
+ghost use Rattle.std.specs.Prelude.{◌≡◌, ◌↔◌, map, IsTrue};
+ghost use Rattle.plan_app.specs.Table.{row_bits, upper_at, LowerFollows, UpperFollows, IsRowBalanced, AreBalanced, IsStartInterval};
+
+use crate::checker::packed::Packed;
+use crate::checker::table::Table;
+use certificate::{Act, Certificate, Row};
+
+/// The upper value of a state.
+pub(super) fn upper(packed: &Packed, table: &Table, penalty: u64, bits: u64) -> u64
+    ensures { result ≡ upper_at packed.now table.now penalty bits }
+{
+    if packed.goal.is_reached(bits) {
+        return 0;
+    }
+    table
+        .bounds
+        .get(&bits)
+        .map_or(penalty, |values| values.upper)
+}
+
+/// Whether the lower value of a state is at most what each action costs from there.
+fn lower_follows(packed: &Packed, table: &Table, bits: u64, lower: u64) -> bool
+    ensures { IsTrue result ↔ LowerFollows packed.now table.now bits lower }
+{
+    for step in packed.steps.as_slice() {
+        let next = table.lower(bits | step.mask);
+        if step.backup(lower, next) < u128::from(lower) * u128::from(step.chance.den) {
+            return false;
+        }
+    }
+    true
+}
+
+/// Whether the upper value of a state is at least what its act costs from there.
+fn upper_follows(packed: &Packed, table: &Table, penalty: u64, bits: u64, row: &Row) -> bool
+    ensures { IsTrue result ↔ UpperFollows packed.now table.now penalty bits row.now.upper row.now.act }
+{
+    match &row.act {
+        Act::GiveUp => penalty <= row.upper,
+        Act::Goal => false,
+        Act::Do(name) => match packed.step_named(name.as_slice()) {
+            None => false,
+            Some(step) => {
+                let next = upper(packed, table, penalty, bits | step.mask);
+                step.backup(row.upper, next) <= u128::from(row.upper) * u128::from(step.chance.den)
+            }
+        },
+    }
+}
+
+/// Whether the row of a state is balanced.
+fn is_row_balanced(packed: &Packed, table: &Table, penalty: u64, bits: u64, row: &Row) -> bool
+    ensures { IsTrue result ↔ IsRowBalanced packed.now table.now penalty bits row.now }
+{
+    if packed.goal.is_reached(bits) {
+        return row.lower == 0 && row.upper == 0 && matches!(row.act, Act::Goal);
+    }
+    row.lower <= penalty
+        && lower_follows(packed, table, bits, row.lower)
+        && upper_follows(packed, table, penalty, bits, row)
+}
+
+/// Whether each row is balanced.
+pub(super) fn are_balanced(packed: &Packed, table: &Table, penalty: u64, rows: &[Row]) -> bool
+    requires { table.now.keys.items ≡ map (row_bits packed.now.names) rows.now }
+    ensures { IsTrue result ↔ AreBalanced packed.now table.now penalty rows.now }
+{
+    for (k, row) in rows.iter().enumerate() {
+        if !is_row_balanced(packed, table, penalty, table.keys[k], row) {
+            return false;
+        }
+    }
+    true
+}
+
+/// Whether the interval of the certificate has the values of the start.
+pub(super) fn is_interval(
+    packed: &Packed,
+    table: &Table,
+    penalty: u64,
+    certificate: &Certificate,
+) -> bool
+    ensures { IsTrue result ↔ IsStartInterval packed.now table.now penalty certificate.now.lower certificate.now.upper }
+{
+    certificate.lower() == table.lower(packed.start)
+        && certificate.upper() == upper(packed, table, penalty, packed.start)
+}

@@ -1,0 +1,16 @@
+//! The program's commands, from the words of the command line to the status.
+#![tactic(auto)]
+
+mod check;
+mod checker;
+mod ending;
+mod laws;
+mod program;
+mod report;
+mod words;
+
+pub use laws::certificate_laws;
+pub use program::run;
+
+#[cfg(test)]
+mod tests;

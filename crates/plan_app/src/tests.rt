@@ -1,0 +1,218 @@
+//! Runs over memory forms: the worked rows, every status, and every call that may fail.
+
+use crate::run;
+use shelf_io::{FreeGate, MemoryShelf, MemorySink, MemorySource};
+use std::alloc::{AllocError, Global};
+use std::process::Abort;
+use std::test::Fail;
+use std::thread::Threads;
+
+const COIN: &[u8] = b"(define (domain coin)
+  (:requirements :mdp)
+  (:predicates (done))
+  (:action flip
+    :effect (and (decrease (reward) 1) (probabilistic 0.5 (done)))))
+(define (problem toss)
+  (:domain coin)
+  (:init)
+  (:goal (done))
+  (:goal-reward 10)
+  (:metric maximize (reward)))
+";
+
+const BALANCED: &[u8] =
+    b"cert 1\npenalty 10000000\ninterval 2000000 2000000\nstates 1\n2000000 2000000 (flip) :\nend\n";
+
+const LOWER_TOO_HIGH: &[u8] =
+    b"cert 1\npenalty 10000000\ninterval 2000000 2000000\nstates 1\n2000001 2000000 (flip) :\nend\n";
+
+const UPPER_TOO_LOW: &[u8] =
+    b"cert 1\npenalty 10000000\ninterval 2000000 2000000\nstates 1\n2000000 1999999 (flip) :\nend\n";
+
+const OTHER_PENALTY: &[u8] =
+    b"cert 1\npenalty 9000000\ninterval 2000000 2000000\nstates 1\n2000000 2000000 (flip) :\nend\n";
+
+const OTHER_ACT: &[u8] =
+    b"cert 1\npenalty 10000000\ninterval 2000000 2000000\nstates 1\n2000000 2000000 (hop) :\nend\n";
+
+const OTHER_INTERVAL: &[u8] =
+    b"cert 1\npenalty 10000000\ninterval 1999999 2000000\nstates 1\n2000000 2000000 (flip) :\nend\n";
+
+const UNKNOWN_ATOM: &[u8] =
+    b"cert 1\npenalty 10000000\ninterval 2000000 2000000\nstates 1\n2000000 2000000 (flip) : (foo)\nend\n";
+
+const NO_ROWS: &[u8] = b"cert 1\npenalty 10000000\ninterval 0 10000000\nstates 0\nend\n";
+
+const SOLVED: &[u8] =
+    b"cert 1\npenalty 10000000\ninterval 1999999 2000001\nstates 1\n1999999 2000001 (flip) :\nend\n";
+
+const ACCEPTED: &[u8] = b"accepted\ninterval 2.000000 2.000000\nstates 1\n";
+
+const NOT_ACCEPTED: &[u8] = b"not accepted 0 0\n";
+
+const CHECK: [&str; 4] = ["check", "coin", "--cert", "c"];
+
+/// Runs on a shelf with these files, where these calls of the shelf and of the sink fail (0 for none), and
+/// checks the status and what was put.
+fn check_run<R: Threads + Sync + Abort>(
+    rt: &R,
+    alloc: Global,
+    words: &[&str],
+    files: &[(&str, &[u8])],
+    failing: (u64, u64),
+    wanted: (u8, &[u8]),
+) -> Result<(), AllocError> {
+    let mut shelf = MemoryShelf::make(alloc)?;
+    for (name, bytes) in files {
+        shelf.hold(name, bytes)?;
+    }
+    shelf.fail_at(failing.0)?;
+    let mut input = MemorySource::make(alloc)?;
+    let mut out = MemorySink::make(alloc)?;
+    out.fail_at(failing.1)?;
+    let status = run(
+        rt, alloc, words, &mut shelf, &mut input, &mut out, &FreeGate,
+    );
+    assert_eq!(rt; status, wanted.0);
+    assert_eq!(rt; out.bytes(), wanted.1);
+    for (name, bytes) in files {
+        assert_eq!(rt; shelf.bytes_of(name), Some(*bytes));
+    }
+    Ok(())
+}
+
+/// Certificates of the coin, with the status and the text of their runs.
+#[test]
+fn certificates_of_the_coin(rt: HostRuntime) -> Result<(), Fail> {
+    let rows: [(&[u8], u8, &[u8]); 10] = [
+        (BALANCED, 0, ACCEPTED),
+        (
+            NO_ROWS,
+            0,
+            b"accepted\ninterval 0.000000 10.000000\nstates 0\n",
+        ),
+        (
+            SOLVED,
+            0,
+            b"accepted\ninterval 1.999999 2.000001\nstates 1\n",
+        ),
+        (LOWER_TOO_HIGH, 7, NOT_ACCEPTED),
+        (UPPER_TOO_LOW, 7, NOT_ACCEPTED),
+        (OTHER_PENALTY, 7, NOT_ACCEPTED),
+        (OTHER_ACT, 7, NOT_ACCEPTED),
+        (OTHER_INTERVAL, 7, NOT_ACCEPTED),
+        (UNKNOWN_ATOM, 7, NOT_ACCEPTED),
+        (b"", 7, NOT_ACCEPTED),
+    ];
+    for (certificate, status, text) in rows {
+        let files = [("coin", COIN), ("c", certificate)];
+        check_run(&rt, rt.alloc(), &CHECK, &files, (0, 0), (status, text))?;
+    }
+    Ok(())
+}
+
+/// Words, files and failing calls of the shelf and the sink, with the status and the text.
+#[test]
+fn faults_and_refusals(rt: HostRuntime) -> Result<(), Fail> {
+    let alloc = rt.alloc();
+    let held: [(&str, &[u8]); 2] = [("coin", COIN), ("c", BALANCED)];
+    check_run(&rt, alloc, &[], &held, (0, 0), (2, b"bad words\n"))?;
+    check_run(
+        &rt,
+        alloc,
+        &["check", "coin"],
+        &held,
+        (0, 0),
+        (2, b"bad words\n"),
+    )?;
+    check_run(
+        &rt,
+        alloc,
+        &["check", "coin", "--cert", "-c"],
+        &held,
+        (0, 0),
+        (2, b"bad words\n"),
+    )?;
+    check_run(
+        &rt,
+        alloc,
+        &["check", "", "--cert", "c"],
+        &held,
+        (0, 0),
+        (2, b"bad words\n"),
+    )?;
+    check_run(
+        &rt,
+        alloc,
+        &["solve", "coin", "--cert", "c"],
+        &held,
+        (0, 0),
+        (2, b"bad words\n"),
+    )?;
+    // The first read, the second read, and the put.
+    check_run(&rt, alloc, &CHECK, &held, (1, 0), (3, b"read failed\n"))?;
+    check_run(&rt, alloc, &CHECK, &held, (2, 0), (3, b"read failed\n"))?;
+    check_run(&rt, alloc, &CHECK, &held, (3, 0), (0, ACCEPTED))?;
+    check_run(&rt, alloc, &CHECK, &held, (0, 1), (4, b""))?;
+    check_run(&rt, alloc, &CHECK, &held, (0, 2), (0, ACCEPTED))?;
+    check_run(&rt, alloc, &CHECK, &held, (1, 1), (4, b""))?;
+    // Names that are not held.
+    check_run(
+        &rt,
+        alloc,
+        &CHECK,
+        &[("coin", COIN)],
+        (0, 0),
+        (3, b"read failed\n"),
+    )?;
+    check_run(
+        &rt,
+        alloc,
+        &CHECK,
+        &[("c", BALANCED)],
+        (0, 0),
+        (3, b"read failed\n"),
+    )?;
+    // Texts that are not read: the certificate is not looked for.
+    check_run(
+        &rt,
+        alloc,
+        &CHECK,
+        &[("coin", b"")],
+        (0, 0),
+        (6, b"refused 10 1:0\n"),
+    )?;
+    check_run(
+        &rt,
+        alloc,
+        &CHECK,
+        &[("coin", b"(define (domain coin))")],
+        (0, 0),
+        (6, b"refused 10 1:0\n"),
+    )?;
+    Ok(())
+}
+
+/// A text of one byte more than may be, and one of just as many.
+#[test]
+fn a_text_of_a_byte_too_many(rt: HostRuntime) -> Result<(), Fail> {
+    let alloc = rt.alloc();
+    let blanks = vec![in alloc; b' '; 1_048_577]?;
+    check_run(
+        &rt,
+        alloc,
+        &CHECK,
+        &[("coin", blanks.as_slice())],
+        (0, 0),
+        (8, b"limit 28 1048576\n"),
+    )?;
+    check_run(
+        &rt,
+        alloc,
+        &CHECK,
+        &[("coin", &blanks.as_slice()[1..])],
+        (0, 0),
+        (6, b"refused 10 1:0\n"),
+    )?;
+    Ok(())
+}

@@ -1,0 +1,22 @@
+use Rattle.std.proofs.Common.{◌≡◌, [], rules}
+use Rattle.ppddl_reader.specs.Grammar.{predicate}
+use Rattle.ppddl_reader.proofs.GroupSteps.{refused, group_steps}
+use Rattle.ppddl_reader.proofs.domain.read_predicate.Goals as goal
+
+pub returns-in_err-open-clause-gives : goal.returns-in_err-open-clause-gives
+unfolding predicate
+returns-in_err-open-clause-gives c = refused _ _ c.in_err-open.field-0.0 _ c.from_residual.ensures.1 (search (group_steps, c.in_err-open.ensures.gives))
+
+pub returns-in_err-name-clause-gives : goal.returns-in_err-name-clause-gives
+unfolding predicate
+returns-in_err-name-clause-gives c = refused _ _ c.in_err-name.field-0.0 _ c.from_residual-in_err-name.ensures.1 (search (group_steps, c.in_ok-open.ensures.gives, c.in_err-name.ensures.gives))
+
+pub returns-in_err-close-clause-gives : goal.returns-in_err-close-clause-gives
+unfolding predicate
+returns-in_err-close-clause-gives c = refused _ _ c.in_err-close.field-0.0 _ c.from_residual-in_err-close.ensures.1 (search (group_steps, c.in_ok-open.ensures.gives, c.in_ok-name.ensures.gives, c.in_err-close.ensures.gives))
+
+pub returns-clause-gives : goal.returns-clause-gives
+unfolding predicate
+returns-clause-gives c =
+    let params : c.from_vec.result ≡ [] = search rules in
+    rw params (search (group_steps, c.in_ok-open.ensures.gives, c.in_ok-name.ensures.gives, c.in_ok-close.ensures.gives))

@@ -1,0 +1,15 @@
+use Rattle.ppddl_reader.specs.Grammar.{domain_section}
+use Rattle.ppddl_reader.proofs.GroupSteps.{refused, group_steps}
+use Rattle.ppddl_reader.proofs.problem.read_domain_section.Goals as goal
+
+pub returns-in_err-open_group-clause-gives : goal.returns-in_err-open_group-clause-gives
+unfolding domain_section
+returns-in_err-open_group-clause-gives c = refused _ _ c.in_err-open_group.field-0.0 _ c.from_residual.ensures.1 (search (group_steps, c.in_err-open_group.ensures.gives))
+
+pub returns-in_err-read_known_name-clause-gives : goal.returns-in_err-read_known_name-clause-gives
+unfolding domain_section
+returns-in_err-read_known_name-clause-gives c = refused _ _ c.in_err-read_known_name.field-0.0 _ c.from_residual-in_err-read_known_name.ensures.1 (search (group_steps, c.in_ok-open_group.ensures.gives, c.in_err-read_known_name.ensures.gives))
+
+pub returns-clause-gives : goal.returns-clause-gives
+unfolding domain_section
+returns-clause-gives c = search (group_steps, c.in_ok-open_group.ensures.gives, c.in_ok-read_known_name.ensures.gives, c.close.ensures.gives)

@@ -1,0 +1,7 @@
+pub mod Words
+pub mod Sequences
+pub mod Grammar
+pub mod ThinTask
+pub mod ThinText
+pub mod Derivation
+pub mod Laws

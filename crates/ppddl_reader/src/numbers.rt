@@ -1,0 +1,79 @@
+//! Amounts and probabilities.
+
+ghost use Rattle.std.specs.Prelude.{◌≡◌, ◌<◌, OnOk};
+ghost use Rattle.token_cursor.specs.Ahead.{size};
+ghost use Rattle.token_cursor.specs.Reading.{Gives, one_at};
+ghost use Rattle.ppddl_reader.specs.Words.{has_slash};
+ghost use Rattle.ppddl_reader.specs.Grammar.{amount, probability, probability_code};
+
+use exact_fraction::{NumberRefusal, read_amount as amount_of, read_probability as probability_of};
+use ppddl_model::{Fraction, TextCode, TextRefusal};
+use std::alloc::Global;
+use token_cursor::{Cursor, Next};
+
+/// The code of what is wrong with a probability.
+fn probability_code(refusal: NumberRefusal) -> TextCode
+    ensures { result ≡ probability_code refusal }
+{
+    match refusal {
+        NumberRefusal::OutOfRange => TextCode::Probability,
+        NumberRefusal::Form | NumberRefusal::TooManyDigits | NumberRefusal::ZeroDenominator => {
+            TextCode::Number
+        }
+    }
+}
+
+/// Whether a word is written as a quotient.
+fn has_slash(word: &[u8]) -> bool
+    ensures { result ≡ has_slash word.now }
+{
+    word.iter().any(|byte| *byte == b'/')
+}
+
+/// Reads an amount of at least one micro-unit and at most `most` of them.
+#[tactic(auto, unfolding(crate::specs::Grammar::amount))]
+pub(crate) fn read_amount(
+    alloc: Global,
+    cursor: &mut Cursor<'_>,
+    most: u64,
+) -> Result<u64, TextRefusal>
+    ensures gives { Gives (λ n. (n, cursor.new)) result (one_at (amount most) cursor.old) }
+    ensures fewer { OnOk result (size cursor.new < size cursor.old) }
+{
+    if cursor.next() != Next::Word {
+        return Err(cursor.refusal(TextCode::Expected));
+    }
+    let word = cursor.word(alloc)?;
+    match amount_of(word.as_slice(), most) {
+        Ok(0) | Err(_) => Err(cursor.refusal(TextCode::Number)),
+        Ok(micro_units) => {
+            cursor.advance();
+            Ok(micro_units)
+        }
+    }
+}
+
+/// Reads a probability that is no quotient.
+#[tactic(auto, unfolding(crate::specs::Grammar::probability))]
+pub(crate) fn read_probability(
+    alloc: Global,
+    cursor: &mut Cursor<'_>,
+) -> Result<Fraction, TextRefusal>
+    ensures gives { Gives (λ p. (p, cursor.new)) result (one_at probability cursor.old) }
+    ensures fewer { OnOk result (size cursor.new < size cursor.old) }
+{
+    if cursor.next() != Next::Word {
+        return Err(cursor.refusal(TextCode::Expected));
+    }
+    let word = cursor.word(alloc)?;
+    if has_slash(word.as_slice()) {
+        return Err(cursor.refusal(TextCode::Unsupported));
+    }
+    match probability_of(word.as_slice()) {
+        Ok(chance) => {
+            cursor.advance();
+            Ok(chance)
+        }
+        Err(refusal) => Err(cursor.refusal(probability_code(refusal))),
+    }
+}

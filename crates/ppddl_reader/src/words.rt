@@ -1,0 +1,69 @@
+//! Names, flags and the words with which groups begin.
+
+ghost use Rattle.std.specs.Prelude.{◌≡◌, ◌<◌, OnOk};
+ghost use Rattle.token_cursor.specs.Ahead.{size};
+ghost use Rattle.token_cursor.specs.Reading.{Gives, one_at};
+ghost use Rattle.ppddl_reader.specs.Sequences.{begun, keyword};
+ghost use Rattle.ppddl_reader.specs.Grammar.{name, flag};
+
+use ppddl_lex::{is_flag, is_name};
+use ppddl_model::{Text, TextCode, TextRefusal};
+use std::alloc::Global;
+use token_cursor::{Cursor, Next, Place};
+
+/// A name and where it stands.
+#[derive(Drop, Debug)]
+pub(crate) struct Name {
+    pub text: Text,
+    pub place: Place,
+}
+
+/// Goes past the `(` of a group and its first word, which has to be this one.
+#[tactic(auto, unfolding(crate::specs::Sequences::begun, crate::specs::Sequences::keyword))]
+pub(crate) fn open_group(cursor: &mut Cursor<'_>, word: &[u8]) -> Result<(), TextRefusal>
+    ensures gives { Gives (λ _. cursor.new) result (begun word.now cursor.old) }
+    ensures fewer { OnOk result (size cursor.new < size cursor.old) }
+{
+    cursor.open()?;
+    cursor.expect_word(word, TextCode::Expected)
+}
+
+/// Goes past a keyword.
+#[tactic(auto, unfolding(crate::specs::Sequences::keyword))]
+pub(crate) fn expect_keyword(cursor: &mut Cursor<'_>, word: &[u8]) -> Result<(), TextRefusal>
+    ensures gives { Gives (λ _. (tt, cursor.new)) result (one_at (keyword word.now) cursor.old) }
+    ensures fewer { OnOk result (size cursor.new < size cursor.old) }
+{
+    cursor.expect_word(word, TextCode::Expected)
+}
+
+/// Reads a name.
+#[tactic(auto, unfolding(crate::specs::Grammar::name))]
+pub(crate) fn read_name(alloc: Global, cursor: &mut Cursor<'_>) -> Result<Name, TextRefusal>
+    ensures gives { Gives (λ n. (n, cursor.new)) result (one_at name cursor.old) }
+    ensures fewer { OnOk result (size cursor.new < size cursor.old) }
+{
+    if cursor.next() != Next::Word {
+        return Err(cursor.refusal(TextCode::Expected));
+    }
+    let text = cursor.word(alloc)?;
+    if !is_name(text.as_slice()) {
+        return Err(cursor.refusal(TextCode::Expected));
+    }
+    let place = cursor.place();
+    cursor.advance();
+    Ok(Name { text, place })
+}
+
+/// Goes past a flag.
+#[tactic(auto, unfolding(crate::specs::Grammar::flag))]
+pub(crate) fn read_flag(cursor: &mut Cursor<'_>) -> Result<(), TextRefusal>
+    ensures gives { Gives (λ _. (tt, cursor.new)) result (one_at flag cursor.old) }
+    ensures fewer { OnOk result (size cursor.new < size cursor.old) }
+{
+    if cursor.next() != Next::Word || !is_flag(cursor.raw_word()) {
+        return Err(cursor.refusal(TextCode::Expected));
+    }
+    cursor.advance();
+    Ok(())
+}
