@@ -5,6 +5,7 @@ use plan_app::run;
 use shelf_io::{FolderShelf, FreeGate, InputSource, OutputSink, Shelf, Sink, Source};
 use std::alloc::{AllocError, Global};
 use std::env;
+use std::io::ErrorKind;
 use std::process::ExitCode;
 use std::thread::Threads;
 
@@ -12,19 +13,30 @@ use std::thread::Threads;
 const NO_MEMORY: u8 = 5;
 
 fn main(rt: HostRuntime) -> ExitCode {
-    // Words that are not all text ask for nothing, as no words do.
     let mut words = Vec::new(rt.alloc());
-    if let Ok(args) = env::args(&rt) {
-        for word in args.skip(1) {
-            if words.push(word).is_err() {
-                return ExitCode::from(NO_MEMORY);
+    match env::args(&rt) {
+        Ok(args) => {
+            for word in args.skip(1) {
+                if words.push(word).is_err() {
+                    return ExitCode::from(NO_MEMORY);
+                }
             }
         }
+        Err(error) if error.kind() == ErrorKind::OutOfMemory => return ExitCode::from(NO_MEMORY),
+        // Words that are not all text ask for nothing, as no words do.
+        Err(_) => {}
     }
     let mut shelf = FolderShelf::make(&rt);
     let mut input = InputSource::make(rt.stdin());
     let mut out = OutputSink::make(rt.stdout());
-    let status = run_with(&rt, rt.alloc(), words.as_slice(), &mut shelf, &mut input, &mut out);
+    let status = run_with(
+        &rt,
+        rt.alloc(),
+        words.as_slice(),
+        &mut shelf,
+        &mut input,
+        &mut out,
+    );
     ExitCode::from(status.unwrap_or(NO_MEMORY))
 }
 
