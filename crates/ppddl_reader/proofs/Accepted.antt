@@ -31,7 +31,7 @@ use Rattle.ppddl_reader.specs.declared.domain.FirstSection.{FirstSection}
 use Rattle.ppddl_reader.specs.declared.domain.FirstSection.TheVariants as first
 use Rattle.ppddl_reader.specs.declared.words.Name.{Name}
 use Rattle.ppddl_reader.specs.Words.{has_slash}
-use Rattle.ppddl_reader.specs.Sequences.{in_group, group_with, one_then, last, giving, located, keyword}
+use Rattle.token_cursor.specs.Sequences.{in_group, group_with, one_then, last, giving, located, keyword}
 use Rattle.ppddl_reader.specs.Grammar.{name, flag, amount_by, amount, probability_by, probability, declares, atom_of, predicate_name, atom_in, atom, condition_in, condition_of, reward, cost, chance, effect_of, new_name, listed, predicate, has_action, action, flags, predicates_section, first_flag, first_behind, first_section, domain_of, domain_with, declarations, domain_behind, domain_sections, heading, domain, known_name, domain_section, facts, init_section, goal_section, reward_section, metric_value, metric, metric_and_end, problem_end, problem_sections, problem, task_of_parts, thin_text}
 use Rattle.ppddl_reader.specs.Derivation as by
 use Rattle.ppddl_reader.specs.Derivation.{headed, Each, IsName, IsFlag, IsAmount, IsProbability, Declares, IsAtom, IsCondition, IsReward, IsCost, IsChance, IsEffect, IsPredicate, ArePredicateNames, IsPredicates, IsRequirements, IsAction, AreActions, AreDomainSections, IsHeading, IsDomain, IsDomainSection, IsFact, IsInit, IsGoal, IsGoalReward, IsMetricValue, IsMetric, AreMetrics, IsProblem, IsThinText}

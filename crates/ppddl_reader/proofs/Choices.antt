@@ -1,18 +1,30 @@
 -- Readers that look at what is next before they read on.
-use Rattle.std.proofs.Common.{◌≡◌, ℕ, List, [], Result, Ok, Err, Bool, true, false, refl, sym, ap, ◌∙◌, codes}
-use Rattle.ppddl_model.specs.declared.tree.Condition.{Condition}
+use Rattle.std.proofs.Common.{◌≡◌, ℕ, List, [], Result, Ok, Err, true, false, refl, ap, ◌∙◌, codes}
 use Rattle.ppddl_model.specs.declared.tree.Condition.TheVariants as condition
 use Rattle.ppddl_model.specs.declared.tree.PredicateDecl.{PredicateDecl}
-use Rattle.ppddl_model.specs.declared.refusal.TextCode.TheVariants.{Expected, Unsupported}
+use Rattle.ppddl_model.specs.declared.refusal.TextCode.TheVariants.{Unsupported}
 use Rattle.token_cursor.specs.declared.place.Place.{Place}
 use Rattle.token_cursor.specs.declared.cursor.Next.TheVariants as next
-use Rattle.token_cursor.specs.Forms.{Form, Forms, none, more, lone, group}
-use Rattle.token_cursor.specs.Ahead.{Ahead, top, inner, after, next_of, is_word, same, word_of, place_of}
+use Rattle.token_cursor.specs.Forms.{none, more, lone, group}
+use Rattle.token_cursor.specs.Ahead.{Ahead, top, inner, after, next_of, is_word, same}
 use Rattle.token_cursor.specs.Reading.{Fault, ◌>>=◌, read_to, one_at, rest_at, wanted}
 use Rattle.token_cursor.proofs.Steps.{rest_close}
 use Rattle.ppddl_reader.specs.declared.domain.FirstSection.TheVariants as first
-use Rattle.ppddl_reader.specs.Sequences.{giving, one_then, keyword}
+use Rattle.token_cursor.specs.Sequences.{giving, one_then, keyword}
 use Rattle.ppddl_reader.specs.Grammar.{atom_in, condition_in, reward, metric_value, first_flag}
+
+-- ---- a condition behind its `(`
+
+module _ (ps : List PredicateDecl) where
+  pub condition_closed : (h : Ahead) → next_of h ≡ next.Close → rest_at (condition_in ps) h ≡ read_to (condition.All []) (after h)
+  condition_closed h is = rest_close (condition_in ps) h is
+
+  pub condition_atom : (h : Ahead) → (next_of h ≡ next.Close → ⊥) → rest_at (condition_in ps) h ≡ rest_at (giving (λ a. condition.Atom a) (atom_in ps)) h
+  unfolding giving atom_in one_then
+  condition_atom (top none e) not = refl
+  condition_atom (top (more f fs) e) not = refl
+  condition_atom (inner none b out) not = absurd (not refl)
+  condition_atom (inner (more f fs) b out) not = refl
 
 -- ---- the value of a metric
 

@@ -22,7 +22,7 @@ use Rattle.token_cursor.specs.Forms.{Form, Forms}
 use Rattle.token_cursor.specs.Reading.{Fault}
 use Rattle.ppddl_reader.specs.declared.words.Name.{Name}
 use Rattle.ppddl_reader.specs.Grammar.{name, flag, amount, probability, declares, predicate_name, atom_in, atom, condition_of, reward, cost, chance, effect_of, new_name, listed, predicate, has_action, action, flags, predicates_section, first_flag, first_section, domain_of, domain_with, declarations, domain_sections, heading, domain, known_name, domain_section, facts, init_section, goal_section, reward_section, metric_value, metric, metric_and_end, problem_end, problem_sections, problem, thin_text}
-use Rattle.ppddl_reader.specs.Sequences.{in_group, group_with, one_then, last, giving, located, keyword}
+use Rattle.token_cursor.specs.Sequences.{in_group, group_with, one_then, last, giving, located, keyword}
 use Rattle.ppddl_reader.specs.Derivation as by
 use Rattle.ppddl_reader.specs.Derivation.{Each, IsName, IsFlag, IsAmount, IsProbability, Declares, IsAtom, IsCondition, IsReward, IsCost, IsChance, IsEffect, IsPredicate, IsPredicates, IsRequirements, IsAction, AreActions, AreDomainSections, IsHeading, IsDomain, IsDomainSection, IsFact, IsInit, IsGoal, IsGoalReward, IsMetricValue, IsMetric, AreMetrics, IsProblem}
 use Rattle.ppddl_reader.specs.Laws.{DerivedIsAccepted}

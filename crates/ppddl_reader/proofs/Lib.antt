@@ -1,8 +1,5 @@
 pub mod Accepted
 pub mod Choices
-pub mod ConditionSteps
 pub mod Derived
-pub mod GroupSteps
-pub mod TextSteps
 pub mod Thin
-pub mod WordReaders
+pub mod Told

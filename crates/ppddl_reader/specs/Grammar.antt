@@ -6,7 +6,7 @@
 --     domain                 `( define ( domain NAME ) .. )`
 --     problem d              `( define ( problem NAME ) .. )` of the domain d
 --     thin_text              a domain and a problem of it
-use Rattle.std.specs.Prelude.{◌≡◌, ℕ, ◌^◌, List, [], ◌∷◌, ◌++◌, length, Bool, true, false, ◌==◌, if◌then◌else◌, codes, Option, Some, None, Result, Ok, Err}
+use Rattle.std.specs.Prelude.{ℕ, ◌^◌, List, [], ◌∷◌, ◌++◌, length, Bool, ◌==◌, if◌then◌else◌, codes, Option, Some, None, Result, Ok, Err}
 use Rattle.std.specs.List.{list_any}
 use Rattle.exact_fraction.specs.declared.Fraction.{Fraction}
 use Rattle.exact_fraction.specs.declared.refusal.NumberRefusal.{NumberRefusal}
@@ -35,7 +35,7 @@ use Rattle.ppddl_reader.specs.declared.domain.FirstSection.{FirstSection}
 use Rattle.ppddl_reader.specs.declared.domain.FirstSection.TheVariants as first
 use Rattle.ppddl_reader.specs.declared.words.Name.{Name}
 use Rattle.ppddl_reader.specs.Words.{has_slash}
-use Rattle.ppddl_reader.specs.Sequences.{in_group, group_with, one_then, last, giving, located, keyword}
+use Rattle.token_cursor.specs.Sequences.{in_group, group_with, one_then, last, giving, located, keyword}
 
 -- ---- words
 

@@ -1,5 +1,4 @@
 pub mod Words
-pub mod Sequences
 pub mod Grammar
 pub mod ThinTask
 pub mod ThinText

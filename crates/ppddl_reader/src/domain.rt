@@ -6,7 +6,7 @@ ghost use Rattle.token_cursor.specs.Reading.{Gives, one_at, rest_at};
 ghost use Rattle.ppddl_reader.specs.Grammar.{declares, listed, predicate, new_name, has_action, action_of, action, flags, predicates_section, first_flag, first_section, domain_with, declarations, domain_sections, heading, domain};
 
 use crate::forms::{declares, read_effect};
-use crate::words::{Name, expect_keyword, open_group, read_flag, read_name};
+use crate::words::{Name, read_flag, read_name};
 use ppddl_model::{Action, Condition, Domain, Effect, List, PredicateDecl, TextCode, TextRefusal};
 use std::alloc::Global;
 use token_cursor::Cursor;
@@ -15,7 +15,7 @@ use token_cursor::Cursor;
 const MOST_DECLARED: usize = 64;
 
 /// Reads the name of a predicate that was not declared before.
-#[tactic(auto, using(crate::proofs::GroupSteps::group_steps), unfolding(crate::specs::Grammar::new_name))]
+#[tactic(auto, using(token_cursor::proofs::GroupSteps::group_steps), unfolding(crate::specs::Grammar::new_name))]
 fn read_new_predicate(
     alloc: Global,
     cursor: &mut Cursor<'_>,
@@ -95,7 +95,7 @@ fn action_of(alloc: Global, name: Name, effect: Effect) -> Action
 }
 
 /// Reads the name of an action that was not declared before.
-#[tactic(auto, using(crate::proofs::GroupSteps::group_steps), unfolding(crate::specs::Grammar::new_name))]
+#[tactic(auto, using(token_cursor::proofs::GroupSteps::group_steps), unfolding(crate::specs::Grammar::new_name))]
 fn read_new_action(
     alloc: Global,
     cursor: &mut Cursor<'_>,
@@ -121,9 +121,9 @@ fn read_action(
     ensures gives { Gives (λ a. (a, cursor.new)) result (one_at (action predicates.now seen.now) cursor.old) }
     ensures fewer { OnOk result (size cursor.new < size cursor.old) }
 {
-    open_group(cursor, b":action")?;
+    cursor.open_group(b":action")?;
     let name = read_new_action(alloc, cursor, seen)?;
-    expect_keyword(cursor, b":effect")?;
+    cursor.expect_keyword(b":effect")?;
     let effect = read_effect(alloc, cursor, predicates)?;
     cursor.close()?;
     Ok(action_of(alloc, name, effect))
@@ -169,7 +169,7 @@ fn read_predicates_section(
     ensures gives { Gives (λ ps. (ps, cursor.new)) result (one_at predicates_section cursor.old) }
     ensures fewer { OnOk result (size cursor.new < size cursor.old) }
 {
-    open_group(cursor, b":predicates")?;
+    cursor.open_group(b":predicates")?;
     read_predicates(alloc, cursor)
 }
 
@@ -183,7 +183,7 @@ enum FirstSection {
 }
 
 /// Goes past the flag of the first section.
-#[tactic(auto, unfolding(crate::specs::Grammar::first_flag, crate::specs::Sequences::keyword))]
+#[tactic(auto, unfolding(crate::specs::Grammar::first_flag, token_cursor::specs::Sequences::keyword))]
 fn read_first_flag(cursor: &mut Cursor<'_>) -> Result<FirstSection, TextRefusal>
     ensures gives { Gives (λ section. (section, cursor.new)) result (one_at first_flag cursor.old) }
     ensures fewer { OnOk result (size cursor.new < size cursor.old) }
@@ -192,7 +192,7 @@ fn read_first_flag(cursor: &mut Cursor<'_>) -> Result<FirstSection, TextRefusal>
         cursor.advance();
         return Ok(FirstSection::Requirements);
     }
-    expect_keyword(cursor, b":predicates")?;
+    cursor.expect_keyword(b":predicates")?;
     Ok(FirstSection::Predicates)
 }
 
@@ -272,7 +272,7 @@ pub(crate) fn read_heading(
     ensures gives { Gives (λ n. (n, cursor.new)) result (one_at (heading kind.now) cursor.old) }
     ensures fewer { OnOk result (size cursor.new < size cursor.old) }
 {
-    open_group(cursor, kind)?;
+    cursor.open_group(kind)?;
     let name = read_name(alloc, cursor)?;
     cursor.close()?;
     Ok(name)
@@ -283,7 +283,7 @@ pub(crate) fn read_domain(alloc: Global, cursor: &mut Cursor<'_>) -> Result<Doma
     ensures gives { Gives (λ d. (d, cursor.new)) result (one_at domain cursor.old) }
     ensures fewer { OnOk result (size cursor.new < size cursor.old) }
 {
-    open_group(cursor, b"define")?;
+    cursor.open_group(b"define")?;
     let name = read_heading(alloc, cursor, b"domain")?;
     read_sections(alloc, cursor, name)
 }

@@ -6,7 +6,7 @@ ghost use Rattle.token_cursor.specs.Reading.{Gives, one_at, rest_at};
 ghost use Rattle.ppddl_reader.specs.Grammar.{declares, atom_of, predicate_name, atom_in, atom, condition_of, reward, cost, chance, effect_of};
 
 use crate::numbers::{read_amount, read_probability};
-use crate::words::{Name, open_group, read_name};
+use crate::words::{Name, read_name};
 use ppddl_model::{Atom, Branch, Condition, Effect, List, PredicateDecl, TextCode, TextRefusal};
 use std::alloc::Global;
 use token_cursor::{Cursor, Next};
@@ -40,7 +40,7 @@ fn atom_of(alloc: Global, predicates: &[PredicateDecl], name: Name) -> Result<At
 }
 
 /// Reads the name of a declared predicate.
-#[tactic(auto, using(crate::proofs::GroupSteps::group_steps), unfolding(crate::specs::Grammar::predicate_name))]
+#[tactic(auto, using(token_cursor::proofs::GroupSteps::group_steps), unfolding(crate::specs::Grammar::predicate_name))]
 fn read_predicate_name(
     alloc: Global,
     cursor: &mut Cursor<'_>,
@@ -103,7 +103,7 @@ pub(crate) fn read_reward(cursor: &mut Cursor<'_>) -> Result<(), TextRefusal>
     ensures gives { Gives (λ _. (tt, cursor.new)) result (one_at reward cursor.old) }
     ensures fewer { OnOk result (size cursor.new < size cursor.old) }
 {
-    open_group(cursor, b"reward")?;
+    cursor.open_group(b"reward")?;
     cursor.close()
 }
 
@@ -112,7 +112,7 @@ fn read_cost(alloc: Global, cursor: &mut Cursor<'_>) -> Result<Effect, TextRefus
     ensures gives { Gives (λ e. (e, cursor.new)) result (one_at cost cursor.old) }
     ensures fewer { OnOk result (size cursor.new < size cursor.old) }
 {
-    open_group(cursor, b"decrease")?;
+    cursor.open_group(b"decrease")?;
     read_reward(cursor)?;
     let micro_units = read_amount(alloc, cursor, MOST_COST)?;
     cursor.close()?;
@@ -128,7 +128,7 @@ fn read_chance(
     ensures gives { Gives (λ e. (e, cursor.new)) result (one_at (chance predicates.now) cursor.old) }
     ensures fewer { OnOk result (size cursor.new < size cursor.old) }
 {
-    open_group(cursor, b"probabilistic")?;
+    cursor.open_group(b"probabilistic")?;
     let chance = read_probability(alloc, cursor)?;
     let atom = read_atom(alloc, cursor, predicates)?;
     cursor.close()?;
@@ -149,7 +149,7 @@ pub(crate) fn read_effect(
     ensures gives { Gives (λ e. (e, cursor.new)) result (one_at (effect_of predicates.now) cursor.old) }
     ensures fewer { OnOk result (size cursor.new < size cursor.old) }
 {
-    open_group(cursor, b"and")?;
+    cursor.open_group(b"and")?;
     let cost = read_cost(alloc, cursor)?;
     let chance = read_chance(alloc, cursor, predicates)?;
     cursor.close()?;

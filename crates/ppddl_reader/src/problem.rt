@@ -8,7 +8,7 @@ ghost use Rattle.ppddl_reader.specs.Grammar.{known_name, domain_section, facts, 
 use crate::domain::read_heading;
 use crate::forms::{read_atom, read_condition, read_reward};
 use crate::numbers::read_amount;
-use crate::words::{Name, expect_keyword, open_group, read_name};
+use crate::words::{Name, read_name};
 use ppddl_model::{
     Condition, Domain, InitItem, List, PredicateDecl, Problem, TextCode, TextRefusal,
 };
@@ -19,7 +19,7 @@ use token_cursor::{Cursor, Next};
 const MOST_REWARD: u64 = 100_000_000_000_000;
 
 /// Goes past the domain's name.
-#[tactic(auto, using(crate::proofs::GroupSteps::group_steps), unfolding(crate::specs::Grammar::known_name))]
+#[tactic(auto, using(token_cursor::proofs::GroupSteps::group_steps), unfolding(crate::specs::Grammar::known_name))]
 fn read_known_name(alloc: Global, cursor: &mut Cursor<'_>, known: &[u8]) -> Result<(), TextRefusal>
     ensures gives { Gives (λ _. (tt, cursor.new)) result (one_at (known_name known.now) cursor.old) }
     ensures fewer { OnOk result (size cursor.new < size cursor.old) }
@@ -40,7 +40,7 @@ fn read_domain_section(
     ensures gives { Gives (λ _. (tt, cursor.new)) result (one_at (domain_section known.now) cursor.old) }
     ensures fewer { OnOk result (size cursor.new < size cursor.old) }
 {
-    open_group(cursor, b":domain")?;
+    cursor.open_group(b":domain")?;
     read_known_name(alloc, cursor, known)?;
     cursor.close()
 }
@@ -72,7 +72,7 @@ fn read_init_section(
     ensures gives { Gives (λ items. (items, cursor.new)) result (one_at (init_section predicates.now) cursor.old) }
     ensures fewer { OnOk result (size cursor.new < size cursor.old) }
 {
-    open_group(cursor, b":init")?;
+    cursor.open_group(b":init")?;
     read_facts(alloc, cursor, predicates)
 }
 
@@ -85,7 +85,7 @@ fn read_goal_section(
     ensures gives { Gives (λ goal. (goal, cursor.new)) result (one_at (goal_section predicates.now) cursor.old) }
     ensures fewer { OnOk result (size cursor.new < size cursor.old) }
 {
-    open_group(cursor, b":goal")?;
+    cursor.open_group(b":goal")?;
     let goal = read_condition(alloc, cursor, predicates)?;
     cursor.close()?;
     Ok(goal)
@@ -96,7 +96,7 @@ fn read_reward_section(alloc: Global, cursor: &mut Cursor<'_>) -> Result<u64, Te
     ensures gives { Gives (λ reward. (reward, cursor.new)) result (one_at reward_section cursor.old) }
     ensures fewer { OnOk result (size cursor.new < size cursor.old) }
 {
-    open_group(cursor, b":goal-reward")?;
+    cursor.open_group(b":goal-reward")?;
     let reward = read_amount(alloc, cursor, MOST_REWARD)?;
     cursor.close()?;
     Ok(reward)
@@ -119,8 +119,8 @@ fn read_metric(cursor: &mut Cursor<'_>) -> Result<(), TextRefusal>
     ensures gives { Gives (λ _. (tt, cursor.new)) result (one_at metric cursor.old) }
     ensures fewer { OnOk result (size cursor.new < size cursor.old) }
 {
-    open_group(cursor, b":metric")?;
-    expect_keyword(cursor, b"maximize")?;
+    cursor.open_group(b":metric")?;
+    cursor.expect_keyword(b"maximize")?;
     read_metric_value(cursor)?;
     cursor.close()
 }
@@ -186,7 +186,7 @@ pub(crate) fn read_problem(
     ensures gives { Gives (λ p. (p, cursor.new)) result (one_at (problem domain.now) cursor.old) }
     ensures fewer { OnOk result (size cursor.new < size cursor.old) }
 {
-    open_group(cursor, b"define")?;
+    cursor.open_group(b"define")?;
     let name = read_heading(alloc, cursor, b"problem")?;
     read_sections(alloc, cursor, domain, name)
 }

@@ -1,9 +1,8 @@
-//! Names, flags and the words with which groups begin.
+//! Names and flags.
 
 ghost use Rattle.std.specs.Prelude.{◌≡◌, ◌<◌, OnOk};
 ghost use Rattle.token_cursor.specs.Ahead.{size};
 ghost use Rattle.token_cursor.specs.Reading.{Gives, one_at};
-ghost use Rattle.ppddl_reader.specs.Sequences.{begun, keyword};
 ghost use Rattle.ppddl_reader.specs.Grammar.{name, flag};
 
 use ppddl_lex::{is_flag, is_name};
@@ -16,25 +15,6 @@ use token_cursor::{Cursor, Next, Place};
 pub(crate) struct Name {
     pub text: Text,
     pub place: Place,
-}
-
-/// Goes past the `(` of a group and its first word, which has to be this one.
-#[tactic(auto, unfolding(crate::specs::Sequences::begun, crate::specs::Sequences::keyword))]
-pub(crate) fn open_group(cursor: &mut Cursor<'_>, word: &[u8]) -> Result<(), TextRefusal>
-    ensures gives { Gives (λ _. cursor.new) result (begun word.now cursor.old) }
-    ensures fewer { OnOk result (size cursor.new < size cursor.old) }
-{
-    cursor.open()?;
-    cursor.expect_word(word, TextCode::Expected)
-}
-
-/// Goes past a keyword.
-#[tactic(auto, unfolding(crate::specs::Sequences::keyword))]
-pub(crate) fn expect_keyword(cursor: &mut Cursor<'_>, word: &[u8]) -> Result<(), TextRefusal>
-    ensures gives { Gives (λ _. (tt, cursor.new)) result (one_at (keyword word.now) cursor.old) }
-    ensures fewer { OnOk result (size cursor.new < size cursor.old) }
-{
-    cursor.expect_word(word, TextCode::Expected)
 }
 
 /// Reads a name.

@@ -4,5 +4,7 @@ pub mod Closed
 pub mod Words
 pub mod Results
 pub mod Steps
-pub mod Loops
 pub mod Taken
+pub mod WordReaders
+pub mod GroupSteps
+pub mod TextSteps

@@ -1,10 +1,10 @@
 -- Reading one thing after another, and what a call answers whose own calls answered.
---     Fails-here, Gives-behind, Fails-behind     the three ends of a sequence of calls with `?`
+--     Fails-here, Fails-behind     where a sequence of calls with `?` fails
 use Rattle.std.proofs.Common.{◌≡◌, Result, Ok, Err, refl, sym, ap, subst, ◌∙◌}
 use Rattle.ppddl_model.specs.declared.refusal.TextRefusal.{TextRefusal}
 use Rattle.ppddl_model.specs.declared.refusal.TextRefusal.TheVariants as refusal
 use Rattle.token_cursor.specs.Ahead.{Ahead}
-use Rattle.token_cursor.specs.Reading.{Fault, ◌>>=◌, Fails, Gives, read_to}
+use Rattle.token_cursor.specs.Reading.{Fault, ◌>>=◌, Fails, read_to}
 
 pub bind_assoc : {A B C : Type 0} (r : Result A Fault) (f : A → Result B Fault) (g : B → Result C Fault) → ((r >>= f) >>= g) ≡ (r >>= λ x. f x >>= g)
 bind_assoc (Ok x) f g = refl
@@ -18,11 +18,6 @@ bind_cong (Err e) f g same = refl
 pub Fails-here : {A B : Type 0} (e : TextRefusal) (r : Result A Fault) (f : A → Result B Fault) (total : Result B Fault) → total ≡ (r >>= f) → Fails e r → Fails e total
 Fails-here refusal.Memory r f total law failed = tt
 Fails-here (refusal.At code file line) r f total law failed = law ∙ ap (λ x. x >>= f) failed
-
--- the first step is done, and the others give what the call answered
-pub Gives-behind : {X A B : Type 0} (view : X → B) (answer : Result X TextRefusal) (r : Result A Fault) (f : A → Result B Fault) (x : A) (total : Result B Fault)
-    → total ≡ (r >>= f) → r ≡ Ok x → Gives view answer (f x) → Gives view answer total
-Gives-behind view answer r f x total law done gives = subst (Gives view answer) (sym (law ∙ ap (λ y. y >>= f) done)) gives
 
 -- the first step is done, and one of the others fails
 pub Fails-behind : {A B : Type 0} (e : TextRefusal) (r : Result A Fault) (f : A → Result B Fault) (x : A) (total : Result B Fault)

@@ -9,7 +9,8 @@ use Rattle.token_cursor.specs.declared.place.Place.{Place}
 use Rattle.token_cursor.specs.Forms.{left, right, word, Form, Forms, lone, group, none, more}
 use Rattle.token_cursor.specs.Ahead.{top, inner, ahead_of, pieces_of, same}
 use Rattle.token_cursor.specs.Pieces.{last_line, text_ahead}
-use Rattle.token_cursor.specs.Reading.{Fault, fails, ◌>>=◌, one_at, rest_at, all_at, ends, wanted}
+use Rattle.token_cursor.specs.Reading.{Fault, fails, ◌>>=◌, one_at, rest_at, all_at}
+use Rattle.token_cursor.specs.Sequences.{in_group, group_with, one_then, last, keyword}
 
 abbrev line : ℕ → Place
 line n = record { file = 1; line = n }
@@ -55,21 +56,8 @@ term (lone v a) = Ok v
 term (group a fs b) = fails Expected a
 
 -- ( = term term )
-abbrev pub equal_to : List ℕ → Forms → Place → Result (List ℕ × List ℕ) Fault
-equal_to x none b = fails Expected b
-equal_to x (more f fs) b = term f >>= λ y. ends fs b >>= λ u. Ok (x, y)
-
-abbrev pub equal_terms : Forms → Place → Result (List ℕ × List ℕ) Fault
-equal_terms none b = fails Expected b
-equal_terms (more f fs) b = term f >>= λ x. equal_to x fs b
-
-abbrev pub equal_in : Forms → Place → Result (List ℕ × List ℕ) Fault
-equal_in none b = fails Expected b
-equal_in (more f fs) b = wanted (codes "=") Expected f >>= λ u. equal_terms fs b
-
-abbrev pub equal : Form → Result (List ℕ × List ℕ) Fault
-equal (lone v a) = fails Expected a
-equal (group a fs b) = equal_in fs b
+unfoldable pub equal : Form → Result (List ℕ × List ℕ) Fault
+equal = group_with (codes "=") (one_then term (λ x. one_then term (λ y. last (x, y))))
 
 -- words, each once, behind those seen
 abbrev pub has_word : List (List ℕ) → List ℕ → Bool
@@ -87,6 +75,7 @@ terms seen (more f fs) b = term f >>= λ v. terms (seen ++ v ∷ []) fs b
 
 -- a missing term is refused at the `)` of its group
 missing : one_at equal (ahead_of (line 9) (left (line 1) ∷ word (codes "=") (line 2) ∷ word (codes "a") (line 3) ∷ right (line 4) ∷ [])) ≡ fails Expected (line 4)
+unfolding equal group_with in_group one_then keyword last
 missing = refl
 
 -- the `)` that ends a list is refused where the text has none

@@ -4,4 +4,6 @@ pub mod Stored
 pub mod Pieces
 pub mod View
 pub mod Reading
+pub mod Sequences
+pub mod Laws
 pub mod Examples

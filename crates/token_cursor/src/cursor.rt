@@ -8,6 +8,7 @@ ghost use Rattle.token_cursor.specs.declared.cursor.Next.TheVariants.{Word, End}
 ghost use Rattle.token_cursor.specs.Ahead.{size, is_top, pieces_of, after, next_of, place_of, word_of, has_form, is_word, same};
 ghost use Rattle.token_cursor.specs.Pieces.{pieces, text_ahead, last_line};
 ghost use Rattle.token_cursor.specs.Reading.{Gives, one_at, rest_at, all_at, ends, opened, wanted};
+ghost use Rattle.token_cursor.specs.Sequences.{keyword, begun};
 
 use crate::place::Place;
 use ppddl_lex::{Token, TokenKind};
@@ -181,6 +182,27 @@ impl<'a> Cursor<'a> {
         }
         self.advance();
         Ok(())
+    }
+
+    /// Goes past this keyword, which is given in lower case. Anything else that stands next is refused as
+    /// `Expected`.
+    #[tactic(auto, unfolding(crate::specs::Sequences::keyword))]
+    pub fn expect_keyword(&mut self, word: &[u8]) -> Result<(), TextRefusal>
+        ensures gives { Gives (λ _. (tt, self.new)) result (one_at (keyword word.now) self.old) }
+        ensures fewer { OnOk result (size self.new < size self.old) }
+    {
+        self.expect_word(word, TextCode::Expected)
+    }
+
+    /// Goes past the `(` of a group and the keyword with which it begins. Anything else is refused as
+    /// `Expected`.
+    #[tactic(auto, unfolding(crate::specs::Sequences::begun))]
+    pub fn open_group(&mut self, word: &[u8]) -> Result<(), TextRefusal>
+        ensures gives { Gives (λ _. self.new) result (begun word.now self.old) }
+        ensures fewer { OnOk result (size self.new < size self.old) }
+    {
+        self.open()?;
+        self.expect_keyword(word)
     }
 
     /// Goes past the `)` of the innermost group. Anything else that stands next is refused as `Expected`.

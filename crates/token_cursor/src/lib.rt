@@ -6,9 +6,11 @@
 #![tactic(auto)]
 
 pub mod cursor;
+mod laws;
 pub mod place;
 #[cfg(test)]
 mod tests;
 
 pub use cursor::{Cursor, Next};
+pub use laws::reading_laws;
 pub use place::Place;

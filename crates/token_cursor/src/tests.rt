@@ -6,7 +6,7 @@ ghost use Rattle.ppddl_lex.specs.Tokens.{Lies, IsClosed};
 ghost use Rattle.token_cursor.specs.Ahead.{Ahead, put, size};
 ghost use Rattle.token_cursor.specs.Forms.{Form};
 ghost use Rattle.token_cursor.specs.Reading.{Gives, read_to, one_at, rest_at, all_at, many};
-ghost use Rattle.token_cursor.specs.Examples.{term, equal_in, equal, names, has_word, terms};
+ghost use Rattle.token_cursor.specs.Examples.{term, equal, names, has_word, terms};
 
 use crate::{Cursor, Next, Place};
 use ppddl_lex::{Token, TokenKind};
@@ -33,25 +33,16 @@ fn read_term(alloc: Global, cursor: &mut Cursor<'_>) -> Result<Text, TextRefusal
     Ok(word)
 }
 
-/// `= term term )`
-fn read_equal_in(alloc: Global, cursor: &mut Cursor<'_>) -> Result<Equal, TextRefusal>
-    ensures gives { Gives (λ e. ((e.left, e.right), cursor.new)) result (rest_at equal_in cursor.old) }
-    ensures fewer { OnOk result (size cursor.new < size cursor.old) }
-{
-    cursor.expect_word(b"=", TextCode::Expected)?;
-    let left = read_term(alloc, cursor)?;
-    let right = read_term(alloc, cursor)?;
-    cursor.close()?;
-    Ok(Equal { left, right })
-}
-
 /// `( = term term )`
 fn read_equal(alloc: Global, cursor: &mut Cursor<'_>) -> Result<Equal, TextRefusal>
     ensures gives { Gives (λ e. ((e.left, e.right), cursor.new)) result (one_at equal cursor.old) }
     ensures fewer { OnOk result (size cursor.new < size cursor.old) }
 {
-    cursor.open()?;
-    read_equal_in(alloc, cursor)
+    cursor.open_group(b"=")?;
+    let left = read_term(alloc, cursor)?;
+    let right = read_term(alloc, cursor)?;
+    cursor.close()?;
+    Ok(Equal { left, right })
 }
 
 /// An equation, by which form it is: what a reader says to the crates above it.

@@ -1,4 +1,4 @@
-use Rattle.ppddl_reader.proofs.TextSteps.{task_is_thin}
+use Rattle.ppddl_reader.proofs.Told.{task_is_thin}
 use Rattle.ppddl_reader.proofs.read.Goals as goal
 
 pub returns-in-Ok-clause-thin : goal.returns-in-Ok-clause-thin

@@ -1,9 +1,8 @@
-use Rattle.std.proofs.Common.{◌≡◌, ◌∙◌}
 use Rattle.token_cursor.specs.Ahead.{place_of}
-use Rattle.ppddl_reader.specs.Sequences.{one_then, last, located}
+use Rattle.token_cursor.specs.Sequences.{one_then, last, located}
 use Rattle.ppddl_reader.specs.Grammar.{domain, problem, task_of_parts, thin_text}
-use Rattle.ppddl_reader.proofs.GroupSteps.{refused}
-use Rattle.ppddl_reader.proofs.TextSteps.{located_gives, located_fails, all_gives, all_fails, all_fails_behind, end_gives, end_fails}
+use Rattle.token_cursor.proofs.GroupSteps.{refused}
+use Rattle.token_cursor.proofs.TextSteps.{located_gives, located_fails, all_gives, all_fails, all_fails_behind, end_gives, end_fails}
 use Rattle.ppddl_reader.proofs.read_task.Goals as goal
 
 pub returns-in_err-domain : goal.returns-in_err-domain

@@ -1,10 +1,9 @@
-use Rattle.std.proofs.Common.{◌≡◌, Ok, Err, ◌∙◌, ap, sym, subst}
 use Rattle.ppddl_lex.specs.Lexemes.{tokens_of}
 use Rattle.token_cursor.specs.Pieces.{text_ahead}
-use Rattle.token_cursor.specs.Reading.{Gives, all_at}
+use Rattle.token_cursor.specs.Reading.{all_at}
 use Rattle.ppddl_reader.specs.Grammar.{thin_text}
-use Rattle.ppddl_reader.specs.ThinText.{task_of, Reads}
-use Rattle.ppddl_reader.proofs.TextSteps.{told, lex_told}
+use Rattle.ppddl_reader.specs.ThinText.{task_of}
+use Rattle.ppddl_reader.proofs.Told.{told, lex_told}
 use Rattle.ppddl_reader.proofs.read_text.Goals as goal
 
 pub returns-in-Ok : goal.returns-in-Ok

@@ -1,6 +1,6 @@
 use Rattle.std.proofs.Common.{◌≡◌, [], rules}
 use Rattle.ppddl_reader.specs.Grammar.{listed, action, domain_of, domain_with}
-use Rattle.ppddl_reader.proofs.GroupSteps.{refused, giving_gives, giving_fails}
+use Rattle.token_cursor.proofs.GroupSteps.{refused, giving_gives, giving_fails}
 use Rattle.ppddl_reader.proofs.domain.read_domain_with.Goals as goal
 
 pub returns-in_err-actions-clause-gives : goal.returns-in_err-actions-clause-gives

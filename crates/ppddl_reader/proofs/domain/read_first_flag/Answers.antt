@@ -1,12 +1,12 @@
 -- The requirements, or the predicates.
-use Rattle.std.proofs.Common.{◌≡◌, false, true, rules, codes, sym, ap, subst, ◌∙◌}
+use Rattle.std.proofs.Common.{◌≡◌, false, true, rules, codes, ap, ◌∙◌}
 use Rattle.token_cursor.specs.Ahead.{is_word}
-use Rattle.token_cursor.specs.Reading.{Fails, read_to, ◌>>=◌, one_at}
+use Rattle.token_cursor.specs.Reading.{read_to, ◌>>=◌, one_at}
 use Rattle.token_cursor.proofs.Results.{Fails-here}
 use Rattle.ppddl_reader.specs.declared.domain.FirstSection.TheVariants as first
-use Rattle.ppddl_reader.specs.Sequences.{keyword}
+use Rattle.token_cursor.specs.Sequences.{keyword}
 use Rattle.ppddl_reader.specs.Grammar.{first_flag}
-use Rattle.ppddl_reader.proofs.GroupSteps.{refused}
+use Rattle.token_cursor.proofs.GroupSteps.{refused}
 use Rattle.ppddl_reader.proofs.Choices.{flag_requirements, flag_predicates}
 use Rattle.ppddl_reader.proofs.domain.read_first_flag.Goals as goal
 

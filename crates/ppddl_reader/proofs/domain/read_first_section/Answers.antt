@@ -1,7 +1,7 @@
 use Rattle.std.proofs.Common.{List, [], Option, Some, None}
 use Rattle.ppddl_model.specs.declared.tree.PredicateDecl.{PredicateDecl}
 use Rattle.ppddl_reader.specs.Grammar.{listed, predicate, flags, first_section}
-use Rattle.ppddl_reader.proofs.GroupSteps.{refused, giving_gives, group_steps}
+use Rattle.token_cursor.proofs.GroupSteps.{refused, giving_gives, group_steps}
 use Rattle.ppddl_reader.proofs.domain.read_first_section.Goals as goal
 
 pub returns-in_err-open-clause-gives : goal.returns-in_err-open-clause-gives

@@ -1,6 +1,6 @@
 use Rattle.std.proofs.Common.{◌≡◌, [], rules}
 use Rattle.ppddl_reader.specs.Grammar.{predicate}
-use Rattle.ppddl_reader.proofs.GroupSteps.{refused, group_steps}
+use Rattle.token_cursor.proofs.GroupSteps.{refused, group_steps}
 use Rattle.ppddl_reader.proofs.domain.read_predicate.Goals as goal
 
 pub returns-in_err-open-clause-gives : goal.returns-in_err-open-clause-gives

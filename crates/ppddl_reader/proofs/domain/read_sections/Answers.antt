@@ -1,5 +1,5 @@
 use Rattle.ppddl_reader.specs.Grammar.{domain_sections}
-use Rattle.ppddl_reader.proofs.GroupSteps.{refused, group_steps}
+use Rattle.token_cursor.proofs.GroupSteps.{refused, group_steps}
 use Rattle.ppddl_reader.proofs.domain.read_sections.Goals as goal
 
 pub returns-in_err-section-clause-gives : goal.returns-in_err-section-clause-gives

@@ -1,5 +1,5 @@
 use Rattle.ppddl_reader.specs.Grammar.{atom}
-use Rattle.ppddl_reader.proofs.GroupSteps.{refused, group_steps}
+use Rattle.token_cursor.proofs.GroupSteps.{refused, group_steps}
 use Rattle.ppddl_reader.proofs.forms.read_atom.Goals as goal
 
 pub returns-in_err-open-clause-gives : goal.returns-in_err-open-clause-gives

@@ -1,7 +1,7 @@
 use Rattle.std.proofs.Common.{◌≡◌, rules}
 use Rattle.ppddl_model.specs.declared.tree.Effect.TheVariants as effect
 use Rattle.ppddl_reader.specs.Grammar.{chance, chance_of}
-use Rattle.ppddl_reader.proofs.GroupSteps.{refused, group_steps}
+use Rattle.token_cursor.proofs.GroupSteps.{refused, group_steps}
 use Rattle.ppddl_reader.proofs.forms.read_chance.Goals as goal
 
 pub returns-in_err-open_group-clause-gives : goal.returns-in_err-open_group-clause-gives

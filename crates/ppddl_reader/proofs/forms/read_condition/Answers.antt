@@ -4,8 +4,8 @@ use Rattle.token_cursor.specs.declared.cursor.Next.TheVariants as next
 use Rattle.token_cursor.specs.Ahead.{next_of}
 use Rattle.token_cursor.specs.Reading.{Fails}
 use Rattle.ppddl_reader.specs.Grammar.{atom_in, condition_in, condition_of}
-use Rattle.ppddl_reader.proofs.ConditionSteps.{condition_closed, condition_atom}
-use Rattle.ppddl_reader.proofs.GroupSteps.{refused, group_gives, group_fails_behind, giving_gives, giving_fails, group_steps}
+use Rattle.ppddl_reader.proofs.Choices.{condition_closed, condition_atom}
+use Rattle.token_cursor.proofs.GroupSteps.{refused, group_gives, group_fails_behind, giving_gives, giving_fails, group_steps}
 use Rattle.ppddl_reader.proofs.forms.read_condition.Goals as goal
 
 pub returns-in_err-open-clause-gives : goal.returns-in_err-open-clause-gives

@@ -5,7 +5,7 @@ use Rattle.token_cursor.specs.declared.cursor.Next.TheVariants as next
 use Rattle.token_cursor.specs.Ahead.{next_of, place_of, word_of}
 use Rattle.ppddl_reader.specs.Words.{has_slash}
 use Rattle.ppddl_reader.specs.Grammar.{probability, probability_by, probability_code}
-use Rattle.ppddl_reader.proofs.WordReaders.{word_fails}
+use Rattle.token_cursor.proofs.WordReaders.{word_fails}
 use Rattle.ppddl_reader.proofs.numbers.read_probability.Goals as goal
 
 pub returns-clause-gives : goal.returns-clause-gives

@@ -2,7 +2,6 @@
 use Rattle.std.proofs.Common.{◌≡◌, rules}
 use Rattle.token_cursor.specs.declared.cursor.Next.TheVariants as next
 use Rattle.token_cursor.specs.Ahead.{next_of}
-use Rattle.token_cursor.specs.Reading.{Gives}
 use Rattle.ppddl_reader.proofs.Choices.{metric_group, metric_word}
 use Rattle.ppddl_reader.proofs.problem.read_metric_value.Goals as goal
 

@@ -1,7 +1,7 @@
 use Rattle.std.proofs.Common.{◌≡◌, [], rules}
-use Rattle.ppddl_reader.specs.Sequences.{giving}
+use Rattle.token_cursor.specs.Sequences.{giving}
 use Rattle.ppddl_reader.specs.Grammar.{reward_section, metric_and_end, problem_of, problem_end}
-use Rattle.ppddl_reader.proofs.GroupSteps.{refused, then_gives, giving_gives, group_steps}
+use Rattle.token_cursor.proofs.GroupSteps.{refused, then_gives, giving_gives, group_steps}
 use Rattle.ppddl_reader.proofs.problem.read_problem_end.Goals as goal
 
 pub returns-in_err-reward-clause-gives : goal.returns-in_err-reward-clause-gives

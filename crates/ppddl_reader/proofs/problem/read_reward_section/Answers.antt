@@ -1,5 +1,5 @@
 use Rattle.ppddl_reader.specs.Grammar.{reward_section}
-use Rattle.ppddl_reader.proofs.GroupSteps.{refused, group_steps}
+use Rattle.token_cursor.proofs.GroupSteps.{refused, group_steps}
 use Rattle.ppddl_reader.proofs.problem.read_reward_section.Goals as goal
 
 pub returns-in_err-open_group-clause-gives : goal.returns-in_err-open_group-clause-gives

@@ -4,7 +4,7 @@ use Rattle.ppddl_model.specs.declared.refusal.TextCode.TheVariants.{Expected}
 use Rattle.token_cursor.specs.declared.cursor.Next.TheVariants as next
 use Rattle.token_cursor.specs.Ahead.{next_of, word_of}
 use Rattle.ppddl_reader.specs.Grammar.{name}
-use Rattle.ppddl_reader.proofs.WordReaders.{word_fails, word_reads}
+use Rattle.token_cursor.proofs.WordReaders.{word_fails, word_reads}
 use Rattle.ppddl_reader.proofs.words.read_name.Goals as goal
 
 pub returns-then-not-is_name-clause-gives : goal.returns-then-not-is_name-clause-gives

@@ -1,9 +1,12 @@
-use Rattle.std.proofs.Common.{◌≡◌, ◌≤◌}
-use Rattle.token_cursor.specs.Ahead.{size}
-use Rattle.token_cursor.specs.Reading.{rest_at, many}
+use Rattle.std.proofs.Common.{◌≡◌, ◌≤◌, List, ◌++◌, Result}
+use Rattle.token_cursor.specs.Ahead.{Ahead, size}
+use Rattle.token_cursor.specs.Reading.{Fault, ◌>>=◌, read_to, rest_at, many}
 use Rattle.token_cursor.specs.Examples.{term}
-use Rattle.token_cursor.proofs.Loops.{with_front}
 use Rattle.token_cursor.proofs.tests.read_terms.Given as goal
+
+-- what was read before, and what is still read
+abbrev with_front : {A : Type 0} → List A → Result (List A × Ahead) Fault → Result (List A × Ahead) Fault
+with_front front r = r >>= λ y. read_to (front ++ y.0) y.1
 
 abbrev pub decreases-loop-alloc : goal.decreases-loop-alloc
 decreases-loop-alloc l = size l.cursor

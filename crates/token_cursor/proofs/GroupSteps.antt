@@ -5,17 +5,17 @@ use Rattle.std.specs.Prelude.{IsErrAnd}
 use Rattle.std.proofs.lemmas.Result.{err_from_is_err_and}
 use Rattle.ppddl_model.specs.declared.refusal.TextRefusal.{TextRefusal}
 use Rattle.token_cursor.specs.declared.place.Place.{Place}
-use Rattle.token_cursor.specs.Forms.{Form, Forms, none, more}
-use Rattle.token_cursor.specs.Ahead.{Ahead, top, inner, place_of}
-use Rattle.token_cursor.specs.Reading.{Fault, ◌>>=◌, Fails, Gives, read_to, one_at, rest_at, all_at, ends, opened}
-use Rattle.token_cursor.proofs.Results.{bind_assoc, bind_cong, through, Fails-here, Fails-behind}
+use Rattle.token_cursor.specs.Forms.{Form, Forms}
+use Rattle.token_cursor.specs.Ahead.{Ahead}
+use Rattle.token_cursor.specs.Reading.{Fault, ◌>>=◌, Fails, Gives, read_to, one_at, rest_at, ends, opened}
+use Rattle.token_cursor.proofs.Results.{bind_assoc, bind_cong, Fails-here, Fails-behind}
 use Rattle.token_cursor.proofs.Steps.{one_group, rest_one, rest_ends, rest_map}
-use Rattle.ppddl_reader.specs.Sequences.{in_group, group_with, one_then, last, giving, located, keyword, begun}
+use Rattle.token_cursor.specs.Sequences.{in_group, group_with, one_then, last, giving, keyword, begun}
 
 -- ---- a group
 
 module _ {A : Type 0} (read : Forms → Place → Result A Fault) (h : Ahead) where
-  group_step : one_at (in_group read) h ≡ (opened h >>= λ k. rest_at read k)
+  pub group_step : one_at (in_group read) h ≡ (opened h >>= λ k. rest_at read k)
   unfolding in_group
   group_step = one_group (in_group read) (λ w a. refl) h
 
@@ -36,9 +36,9 @@ module _ {A : Type 0} (read : Forms → Place → Result A Fault) (h : Ahead) wh
 -- ---- one form, and the others
 
 module _ {A B : Type 0} (first : Form → Result A Fault) (others : A → Forms → Place → Result B Fault) (h : Ahead) where
-  then_step : rest_at (one_then first others) h ≡ (one_at first h >>= λ y. rest_at (others y.0) y.1)
+  pub then_step : rest_at (one_then first others) h ≡ (one_at first h >>= λ y. rest_at (others y.0) y.1)
   unfolding one_then
-  then_step = rest_one (one_then first others) first others (λ f fs b. refl) (λ b. refl) h
+  then_step = rest_one (one_then first others) first others (λ b. refl) (λ f fs b. refl) h
 
   pub then_gives : (x : A) (k : Ahead) (r : Result (B × Ahead) Fault) → one_at first h ≡ read_to x k → rest_at (others x) k ≡ r → rest_at (one_then first others) h ≡ r
   then_gives x k r at is = then_step ∙ ap (λ (o : Result (A × Ahead) Fault). o >>= λ y. rest_at (others y.0) y.1) at ∙ is
@@ -57,7 +57,7 @@ module _ {A B : Type 0} (first : Form → Result A Fault) (others : A → Forms 
 -- ---- a group that begins with a word
 
 module _ {A : Type 0} (w : List ℕ) (read : Forms → Place → Result A Fault) (h : Ahead) where
-  with_step : one_at (group_with w read) h ≡ (begun w h >>= λ k. rest_at read k)
+  pub with_step : one_at (group_with w read) h ≡ (begun w h >>= λ k. rest_at read k)
   unfolding group_with begun
   with_step =
       group_step (one_then (keyword w) (λ u. read)) h
@@ -82,7 +82,7 @@ module _ {A : Type 0} (w : List ℕ) (read : Forms → Place → Result A Fault)
 -- ---- the end of a group
 
 module _ {A : Type 0} (x : A) (h : Ahead) where
-  last_step : rest_at (last x) h ≡ (rest_at ends h >>= λ y. read_to x y.1)
+  pub last_step : rest_at (last x) h ≡ (rest_at ends h >>= λ y. read_to x y.1)
   unfolding last
   last_step = rest_ends x h
 
@@ -95,7 +95,7 @@ module _ {A : Type 0} (x : A) (h : Ahead) where
 -- ---- what is made of what is read
 
 module _ {A B : Type 0} (g : A → B) (read : Forms → Place → Result A Fault) (h : Ahead) where
-  giving_step : rest_at (giving g read) h ≡ (rest_at read h >>= λ y. read_to (g y.0) y.1)
+  pub giving_step : rest_at (giving g read) h ≡ (rest_at read h >>= λ y. read_to (g y.0) y.1)
   unfolding giving
   giving_step = rest_map read g h
 
