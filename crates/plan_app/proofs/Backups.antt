@@ -1,15 +1,14 @@
 -- The expected cost of a thin action: over the common denominator of the task, and over that of its own chance.
-use Rattle.std.proofs.Common.{◌≡◌, ℕ, ◌+◌, ◌-◌, ◌*◌, ◌/◌, ◌^◌, ◌<◌, ◌≤◌, Bool, true, false, List, [], ◌∷◌, map, nat_eq, refl, sym, ap, subst, ◌∙◌, arith}
+use Rattle.std.proofs.Common.{◌≡◌, ℕ, ◌+◌, ◌-◌, ◌*◌, ◌/◌, ◌^◌, ◌<◌, ◌≤◌, true, false, List, [], ◌∷◌, map, nat_eq, refl, sym, ap, ◌∙◌, arith}
 use Rattle.std.proofs.lemmas.Bool.{eqb-true}
 use Rattle.std.proofs.Math.Nat.{mul-sub, mul-le-mul_left, le_of_mul-le-mul_left, mul_comm, one-mul, pow-zero, pow-suc}
 use Rattle.weighted.specs.Mean.{total, positive}
-use Rattle.weighted.proofs.Totals.{total-map}
 use Rattle.exact_fraction.specs.declared.Fraction.{Fraction}
 use Rattle.decision_process.specs.Process.{Outcome, expected}
 use Rattle.ppddl_model.specs.declared.tree.Task.{Task}
 use Rattle.ppddl_model.specs.State.{Name, State, no_atoms, with_atom, without}
 use Rattle.ppddl_model.specs.Denominator.{common_denominator, draws, most_draws}
-use Rattle.ppddl_model.specs.Outcomes.{Entry, outcomes}
+use Rattle.ppddl_model.specs.Outcomes.{outcomes}
 use Rattle.ppddl_model.specs.Steps.{Instance, Charges, world, base_cost, outcome_of, step}
 use Rattle.ppddl_model.proofs.States.{without-no_atoms}
 use Rattle.plan_app.specs.Packed.{thin_effect, atom_of}

@@ -1,9 +1,9 @@
 -- Why a run ends: steps from what a part of it answered to what the whole says.
-use Rattle.std.proofs.Common.{◌≡◌, ◌≢◌, ℕ, ◌+◌, ◌<◌, ◌≤◌, ◌⊎◌, inl, inr, List, length, replicate, refl, sym, ap, ◌∙◌, subst, arith, Option, Some, None, Result, Ok, Err, true, false, IsTrue, IfOk, IfErr}
+use Rattle.std.proofs.Common.{◌≡◌, ℕ, ◌+◌, ◌<◌, ◌≤◌, ◌⊎◌, inl, inr, List, length, replicate, refl, sym, ap, subst, arith, Option, Some, None, Result, Ok, Err, false, IsTrue, IfOk, IfErr}
 use Rattle.std.proofs.Math.ListN.{length-replicate}
 use Rattle.std.specs.Prelude.{◌↔◌, Bool}
 use Rattle.std.specs.Option.{unwrap_or}
-use Rattle.shelf_io.specs.Causes.{one_more, Rose}
+use Rattle.shelf_io.specs.Causes.{Rose}
 use Rattle.shelf_io.specs.Shelf.{Told, Untold, Missing, Holds, MayHold}
 use Rattle.shelf_io.specs.declared.fault.ShelfFault.{ShelfFault}
 use Rattle.shelf_io.specs.declared.fault.ShelfFault.TheVariants as fault

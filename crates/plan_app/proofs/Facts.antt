@@ -14,11 +14,11 @@ use Rattle.ppddl_model.specs.declared.tree.Term.{Term}
 use Rattle.ppddl_model.specs.declared.tree.PredicateDecl.{PredicateDecl}
 use Rattle.ppddl_model.specs.declared.tree.InitItem.{InitItem}
 use Rattle.ppddl_model.specs.declared.tree.InitItem.TheVariants as item
-use Rattle.ppddl_model.specs.State.{Name, same_name, GroundAtom, same_atom}
+use Rattle.ppddl_model.specs.State.{Name, same_name, same_atom}
 use Rattle.ppddl_model.specs.Changing.{fact_atoms}
 use Rattle.ppddl_model.proofs.States.{same_name-Decides, same_atom-Decides}
 use Rattle.plan_app.specs.Bits.{bits_where}
-use Rattle.ppddl_reader.specs.ThinTask.{IsDeclared, IsThinAction}
+use Rattle.ppddl_reader.specs.ThinTask.{IsDeclared}
 use Rattle.plan_app.specs.Packed.{IsThin, IsFact, thin_effect, atom_of}
 use Rattle.plan_app.proofs.Effects.{chances, chances-thin}
 use Rattle.plan_app.proofs.Bits.{bits_from_agree, bits_where-or}

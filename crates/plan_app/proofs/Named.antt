@@ -1,10 +1,10 @@
 -- Steps by their names.
-use Rattle.std.proofs.Common.{◌≡◌, ℕ, Bool, false, cond, nat_eq, List, [], ◌∷◌, Option, Some, None, refl, sym, ap, ◌∙◌}
+use Rattle.std.proofs.Common.{◌≡◌, ℕ, Bool, false, cond, nat_eq, List, [], ◌∷◌, Some, None, refl, sym, ap, ◌∙◌}
 use Rattle.std.specs.List.{find}
 use Rattle.std.specs.Cmp.Lexicographic.{pointwise}
 use Rattle.std.proofs.lemmas.Map.Text.{is_eq-slice_cmp}
 use Rattle.certificate.specs.Names.{list_text}
-use Rattle.ppddl_model.specs.State.{Name, same_name}
+use Rattle.ppddl_model.specs.State.{Name}
 use Rattle.ppddl_model.proofs.States.{same_name-Decides}
 use Rattle.plan_app.specs.declared.checker.step.Step.{Step}
 use Rattle.plan_app.specs.Bits.{is_atom_of}

@@ -1,18 +1,15 @@
 -- States of a thin task as bits, one for the atom of each action.
-use Rattle.std.proofs.Common.{◌≡◌, ℕ, ◌==◌, Bool, true, false, not, ◌&&◌, ◌||◌, List, [], ◌∷◌, ◌++◌, map, refl, sym, ap, subst, ◌∙◌, ne_eqb}
+use Rattle.std.proofs.Common.{◌≡◌, ℕ, ◌==◌, Bool, true, false, not, ◌&&◌, ◌||◌, List, [], ◌∷◌, ◌++◌, map, refl, sym, ap, subst, ◌∙◌}
 use Rattle.std.specs.Prelude.{Contains, filter, bit_and, bit_or}
 use Rattle.std.specs.List.{list_any}
-use Rattle.std.specs.Ordering.{eq_by_cmp}
 use Rattle.std.specs.Cmp.{IsEquivalence}
-use Rattle.std.proofs.lemmas.Bool.{eqb-true}
 use Rattle.std.proofs.lemmas.Cmp.{eq_by_cmp_equiv}
 use Rattle.std.proofs.lemmas.List.Folds.{list_any-append}
 use Rattle.std.proofs.lemmas.Map.Views.{Contains-from_any, list_any-from_Contains, any-filter_same}
 use Rattle.std.proofs.lemmas.Nat.{or_comm}
 use Rattle.certificate.specs.declared.model.Row.{Row}
-use Rattle.ppddl_model.specs.declared.tree.Atom.{Atom}
 use Rattle.ppddl_model.specs.declared.tree.Task.{Task}
-use Rattle.ppddl_model.specs.State.{Name, same_name, GroundAtom, same_atom, atom_cmp, atom_cmp_total, State, no_atoms, has, with_atom, with_atoms}
+use Rattle.ppddl_model.specs.State.{Name, same_name, GroundAtom, same_atom, atom_cmp_total, State, no_atoms, has, with_atom, with_atoms}
 use Rattle.ppddl_model.specs.Changing.{facts, changing_atoms, is_changing, fixed_facts}
 use Rattle.ppddl_model.proofs.States.{same_name-Decides, same_atom-Decides, has-with_atom, has-with_atoms, same_from_has}
 use Rattle.plan_app.specs.Values.{has_text, row_state}

@@ -1,9 +1,7 @@
 -- What rows say of the states of a thin task, by its packed form.
 use Rattle.std.proofs.Common.{◌≡◌, ℕ, ◌+◌, ◌*◌, ◌/◌, ◌^◌, ◌<◌, ◌≤◌, ◌==◌, Bool, true, false, cond, not, List, [], ◌∷◌, map, Option, Some, None, refl, sym, ap, subst, ◌∙◌, inl, inr, eq-eqb, arith}
-use Rattle.std.specs.Prelude.{Contains, Decides, option_map, bit_and, bit_or}
-use Rattle.std.specs.List.{find, list_any, AllZip}
-use Rattle.std.specs.Ordering.{nat_cmp}
-use Rattle.std.specs.BTreeMap.{get}
+use Rattle.std.specs.Prelude.{Contains, option_map, bit_or}
+use Rattle.std.specs.List.{list_any}
 use Rattle.std.proofs.lemmas.Bool.{eqb-true}
 use Rattle.std.proofs.lemmas.Bool.Decides.{same_from_decides}
 use Rattle.decision_process.specs.Process.{expected}
@@ -12,12 +10,12 @@ use Rattle.ppddl_model.specs.declared.tree.Action.{Action}
 use Rattle.ppddl_model.specs.declared.tree.Atom.{Atom}
 use Rattle.ppddl_model.specs.declared.tree.Condition.TheVariants as condition
 use Rattle.ppddl_model.specs.declared.tree.Task.{Task}
-use Rattle.ppddl_model.specs.State.{Name, same_name, GroundAtom, same_atom, State, has, with_atom, same_state}
+use Rattle.ppddl_model.specs.State.{Name, same_name, same_atom, State, has, with_atom, same_state}
 use Rattle.ppddl_model.specs.Objects.{named, ground_atom}
 use Rattle.ppddl_model.specs.Truth.{holds}
 use Rattle.ppddl_model.specs.Denominator.{common_denominator}
 use Rattle.ppddl_model.specs.Steps.{Charges, world, is_goal, step, step_den}
-use Rattle.ppddl_model.specs.Changing.{facts, literals, changing_atoms, is_changing}
+use Rattle.ppddl_model.specs.Changing.{facts, literals, changing_atoms}
 use Rattle.ppddl_model.proofs.States.{same_state-Decides}
 use Rattle.ppddl_reader.specs.ThinTask.{IsThinTask}
 use Rattle.plan_app.specs.declared.checker.packed.Packed.{Packed}

@@ -1,10 +1,10 @@
 -- What the status says of the texts, from how the run ended.
-use Rattle.std.proofs.Common.{◌≡◌, ◌≢◌, ℕ, ◌+◌, ◌*◌, ◌^◌, ◌<◌, ◌≤◌, ◌⊎◌, inl, inr, List, [], ◌∷◌, length, refl, sym, ap, ◌∙◌, subst, arith, Option, Some, None}
-use Rattle.std.specs.Prelude.{◌↔◌, Contains}
+use Rattle.std.proofs.Common.{◌≡◌, ◌≢◌, ℕ, ◌⊎◌, inl, inr, List, [], refl, sym, ap, ◌∙◌, subst, arith, Option, Some, None}
+use Rattle.std.specs.Prelude.{◌↔◌}
 use Rattle.std.proofs.lemmas.List.{append-nil}
 use Rattle.std.specs.Io.KnownBytes.{append_known}
 use Rattle.shelf_io.specs.Causes.{Rose}
-use Rattle.shelf_io.specs.Shelf.{Told, Untold, Missing, Holds, MayHold}
+use Rattle.shelf_io.specs.Shelf.{Told, Holds, MayHold}
 use Rattle.certificate.specs.Content.{Content}
 use Rattle.ppddl_model.specs.declared.tree.Task.{Task}
 use Rattle.ppddl_model.specs.Steps.{Charges}
@@ -13,10 +13,9 @@ use Rattle.plan_app.specs.declared.ending.Ending.{Ending}
 use Rattle.plan_app.specs.declared.ending.Ending.TheVariants as ending
 use Rattle.plan_app.specs.Words.{Names, request_of}
 use Rattle.plan_app.specs.Balanced.{IsBalancedFor}
-use Rattle.plan_app.specs.Verdict.{most_text, charged_by, IsTooLong, IsRefused, IsThin, IsDecoded, IsAccepted, IsRejected}
-use Rattle.plan_app.specs.Texts.{accepted_text}
+use Rattle.plan_app.specs.Verdict.{charged_by, IsTooLong, IsRefused, IsThin, IsDecoded, IsAccepted, IsRejected}
 use Rattle.plan_app.proofs.Enclosed.{start_den_positive, balanced_encloses_for}
-use Rattle.plan_app.specs.Ending.{Concludes, Concluded, EndsWith, Ends, Reports, Reported, HasVerdict, IsMissing, IsAnswer, IsTold, status_of, ending_text}
+use Rattle.plan_app.specs.Ending.{Concludes, Concluded, EndsWith, Reported, HasVerdict, IsMissing, IsAnswer, IsTold, status_of, ending_text}
 
 -- what a shelf tells of a name is what it may hold
 pub told_held : (told : Told) (bytes found : List ℕ) → told ≡ Holds bytes → MayHold told found → found ≡ bytes

@@ -1,5 +1,5 @@
 -- What the definitions say of a thin task.
-use Rattle.std.proofs.Common.{◌≡◌, ℕ, zero, suc, ◌+◌, ◌*◌, ◌/◌, ◌^◌, ◌<◌, ◌≤◌, max, Bool, true, false, cond, ◌||◌, List, [], ◌∷◌, ◌++◌, map, Some, refl, sym, ap, subst, ◌∙◌, inl, inr, arith}
+use Rattle.std.proofs.Common.{◌≡◌, ℕ, zero, suc, ◌+◌, ◌*◌, ◌/◌, ◌^◌, ◌<◌, ◌≤◌, Bool, true, false, cond, ◌||◌, List, [], ◌∷◌, ◌++◌, map, refl, sym, ap, subst, ◌∙◌, arith}
 use Rattle.std.specs.Prelude.{Contains, filter, All}
 use Rattle.std.specs.Int.{◌∣◌}
 use Rattle.std.specs.List.{flat_map, list_any, AllZip}
@@ -9,7 +9,7 @@ use Rattle.std.proofs.lemmas.List.Elements.{All-nil, All-cons, All-append, All-c
 use Rattle.std.proofs.lemmas.List.Folds.{flat_map-map}
 use Rattle.exact_fraction.specs.declared.Fraction.{Fraction}
 use Rattle.exact_fraction.proofs.DivisorLemmas.{IsLeastMultipleOf-common_multiple, common_multiple-pos}
-use Rattle.weighted.proofs.Members.{Contains-first, Contains-later, Contains-cons_cases, Contains-nil}
+use Rattle.weighted.proofs.Members.{Contains-first, Contains-later, Contains-nil}
 use Rattle.ppddl_model.specs.declared.tree.Action.{Action}
 use Rattle.ppddl_model.specs.declared.tree.Atom.{Atom}
 use Rattle.ppddl_model.specs.declared.tree.Param.{Param}
@@ -25,10 +25,10 @@ use Rattle.ppddl_model.specs.Truth.{holds}
 use Rattle.ppddl_model.specs.Denominator.{denominators, item_denominators, common_denominator, draws, most_draws}
 use Rattle.ppddl_model.specs.Outcomes.{Entry, nothing, joined, products_with, products_of}
 use Rattle.ppddl_model.specs.Costs.{decreases}
-use Rattle.ppddl_model.specs.Steps.{Instance, Charges, world, instances, is_open, base_cost, true_at_first, item_outcomes, item_draws, starts, start_den}
+use Rattle.ppddl_model.specs.Steps.{Instance, world, instances, is_open, base_cost, true_at_first, item_outcomes, item_draws, starts, start_den}
 use Rattle.ppddl_model.specs.Changing.{literals, is_kept, is_not_false, known, kept_instances, chance_atoms, fact_atoms, facts, changing_atoms, changing_predicates}
 use Rattle.ppddl_model.proofs.States.{has-with_atom, has-with_atoms, has-union, same_from_has}
-use Rattle.ppddl_reader.specs.ThinTask.{IsThinTask, IsThinAction}
+use Rattle.ppddl_reader.specs.ThinTask.{IsThinTask}
 use Rattle.plan_app.specs.Packed.{IsThin, thin_effect, atom_of, MakesTrue}
 use Rattle.plan_app.proofs.Lists.{filter_all, flat_map_nothing, flat_map_singles, flat_map-AllZip, Contains-flat_map, All-flat_map, Contains-map_cases}
 use Rattle.plan_app.proofs.Effects.{denominators-thin, decreases-thin, draws-thin, literals-thin, holds-nothing, known-nothing}

@@ -1,19 +1,17 @@
 -- A certificate is balanced for a thin task exactly where its rows make a table and are balanced, and its interval is that of the start.
-use Rattle.std.proofs.Common.{◌≡◌, ◌≢◌, ℕ, ◌+◌, ◌-◌, ◌*◌, ◌/◌, ◌<◌, ◌≤◌, ◌==◌, ◌↔◌, Bool, true, false, ◌&&◌, ◌||◌, List, [], ◌∷◌, map, Some, refl, sym, ap, subst, ◌∙◌, inl, inr, arith}
+use Rattle.std.proofs.Common.{◌≡◌, ℕ, ◌+◌, ◌-◌, Bool, true, false, ◌&&◌, ◌||◌, List, [], ◌∷◌, map, refl, sym, ap, subst, ◌∙◌, inl, inr, arith}
 use Rattle.std.specs.Prelude.{Contains}
 use Rattle.std.specs.List.{list_any, list_all}
 use Rattle.std.proofs.Math.Nat.{div-one}
 use Rattle.weighted.proofs.Members.{Contains-first, Contains-later, Contains-cons_cases, Contains-nil}
-use Rattle.decision_process.specs.Balanced.{IsBalanced, IsInterval}
 use Rattle.decision_process.specs.Enclosing.{at_starts}
 use Rattle.decision_process.specs.Rounded.{floor, ceiling}
-use Rattle.certificate.specs.declared.model.Act.TheVariants.{Goal, Do}
 use Rattle.certificate.specs.declared.model.Row.{Row}
 use Rattle.certificate.specs.Names.{list_text}
 use Rattle.certificate.specs.Content.{Content}
 use Rattle.ppddl_model.specs.declared.tree.Task.{Task}
-use Rattle.ppddl_model.specs.State.{Name, same_name, GroundAtom, State, no_atoms, with_atoms}
-use Rattle.ppddl_model.specs.Steps.{Instance, is_goal, starts, start_den}
+use Rattle.ppddl_model.specs.State.{Name, GroundAtom, no_atoms, with_atoms}
+use Rattle.ppddl_model.specs.Steps.{starts, start_den}
 use Rattle.ppddl_model.specs.Changing.{facts, changing_atoms}
 use Rattle.ppddl_model.proofs.States.{same_name-Decides}
 use Rattle.ppddl_reader.specs.ThinTask.{IsThinTask}

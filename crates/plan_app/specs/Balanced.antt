@@ -4,7 +4,7 @@
 --                                     the interval is that of the starts
 --     EnclosesFor task charges c      no finite plans cost less than the interval's lower end on average, and the first n steps of the
 --                                     certificate's acts cost at most its upper end, for every n
-use Rattle.std.specs.Prelude.{◌≡◌, ◌≢◌, ℕ, true, false, List, [], ◌∷◌, Some, None, Contains}
+use Rattle.std.specs.Prelude.{◌≡◌, ◌≢◌, ℕ, true, false, List, [], ◌∷◌, Some, Contains}
 use Rattle.certificate.specs.declared.model.Act.TheVariants.{Goal, Do}
 use Rattle.certificate.specs.declared.model.Row.{Row}
 use Rattle.certificate.specs.Names.{list_text}

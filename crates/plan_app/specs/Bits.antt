@@ -3,7 +3,7 @@
 --     is_known names text        whether the text is that of one of the names' atoms, `(NAME)`
 --     bits_of_text names text    the bits of the names whose atom has this text
 --     bits_of_texts names texts  the bits of the names whose atom has one of these texts
-use Rattle.std.specs.Prelude.{ℕ, ◌+◌, ◌*◌, Bool, true, false, cond, List, [], ◌∷◌}
+use Rattle.std.specs.Prelude.{ℕ, ◌+◌, ◌*◌, Bool, cond, List, [], ◌∷◌}
 use Rattle.std.specs.List.{list_any}
 use Rattle.certificate.specs.Names.{list_text}
 use Rattle.ppddl_model.specs.State.{Name, same_name}

@@ -10,7 +10,7 @@
 --                                 the values and the act of the row of a state follow from the values of the next states
 --     IsBalancedBy packed table penalty c
 --                                 so it is with each row of a certificate; its penalty is this one, and its interval that of the start
-use Rattle.std.specs.Prelude.{◌≡◌, ℕ, ◌*◌, ◌≤◌, ◌==◌, Bool, true, false, cond, List, [], ◌∷◌, map, length, Option, Some, None, option_map, Contains, IsTrue, MatchBool}
+use Rattle.std.specs.Prelude.{◌≡◌, ℕ, ◌*◌, ◌≤◌, ◌==◌, cond, List, map, Option, Some, None, option_map, Contains, IsTrue, MatchBool}
 use Rattle.std.specs.List.{find, list_all}
 use Rattle.std.specs.Ordering.{nat_cmp}
 use Rattle.std.specs.BTreeMap.{get}
@@ -21,7 +21,6 @@ use Rattle.certificate.specs.Content.{Content}
 use Rattle.ppddl_model.specs.State.{Name}
 use Rattle.plan_app.specs.declared.checker.packed.Packed.{Packed}
 use Rattle.plan_app.specs.declared.checker.step.Step.{Step}
-use Rattle.plan_app.specs.declared.checker.table.Bounds.{Bounds}
 use Rattle.plan_app.specs.declared.checker.table.Table.{Table}
 use Rattle.plan_app.specs.Balanced.{AreDistinct}
 use Rattle.plan_app.specs.Bits.{is_known, bits_of_texts}

@@ -14,7 +14,7 @@ use Rattle.certificate.specs.declared.model.Row.{Row}
 use Rattle.certificate.specs.Names.{list_text}
 use Rattle.ppddl_model.specs.declared.tree.Task.{Task}
 use Rattle.ppddl_model.specs.declared.tree.Param.{Param}
-use Rattle.ppddl_model.specs.State.{Name, same_name, GroundAtom, State, no_atoms, with_atoms, same_state}
+use Rattle.ppddl_model.specs.State.{same_name, GroundAtom, State, no_atoms, with_atoms, same_state}
 use Rattle.ppddl_model.specs.Objects.{bound}
 use Rattle.ppddl_model.specs.Steps.{Instance, Charges, instances, is_goal}
 use Rattle.ppddl_model.specs.Changing.{changing_atoms, fixed_facts}

@@ -2,7 +2,7 @@
 --     is_plain w          a word that is not empty and does not begin with `-`
 --     Names               the names of a planning text and of a certificate
 --     request_of words    those of `check DOMAIN --cert F` with plain words DOMAIN and F; any other words have no request
-use Rattle.std.specs.Prelude.{ℕ, Bool, true, false, not, ◌&&◌, cond, nat_eq, List, [], ◌∷◌, Option, Some, None, codes}
+use Rattle.std.specs.Prelude.{ℕ, Bool, false, not, ◌&&◌, cond, nat_eq, List, [], ◌∷◌, Option, Some, None, codes}
 use Rattle.std.specs.Str.{bytes_eq}
 
 abbrev pub is_plain : List ℕ → Bool

@@ -50,6 +50,9 @@ const ACCEPTED: &[u8] = b"accepted\ninterval 2.000000 2.000000\nstates 1\n";
 
 const NOT_ACCEPTED: &[u8] = b"not accepted 0 0\n";
 
+/// The files of a run that accepts.
+const HELD: [(&str, &[u8]); 2] = [("coin", COIN), ("c", BALANCED)];
+
 const CHECK: [&str; 4] = ["check", "coin", "--cert", "c"];
 
 /// Runs on a shelf with these files, where these calls of the shelf and of the sink fail (0 for none), and
@@ -111,85 +114,53 @@ fn certificates_of_the_coin(rt: HostRuntime) -> Result<(), Fail> {
     Ok(())
 }
 
-/// Words, files and failing calls of the shelf and the sink, with the status and the text.
 #[test]
-fn faults_and_refusals(rt: HostRuntime) -> Result<(), Fail> {
-    let alloc = rt.alloc();
-    let held: [(&str, &[u8]); 2] = [("coin", COIN), ("c", BALANCED)];
-    check_run(&rt, alloc, &[], &held, (0, 0), (2, b"bad words\n"))?;
-    check_run(
-        &rt,
-        alloc,
+fn words_that_ask_for_nothing(rt: HostRuntime) -> Result<(), Fail> {
+    let rows: [&[&str]; 7] = [
+        &[],
         &["check", "coin"],
-        &held,
-        (0, 0),
-        (2, b"bad words\n"),
-    )?;
-    check_run(
-        &rt,
-        alloc,
+        &["check", "coin", "--cert"],
+        &["check", "coin", "--cert", "c", "d"],
         &["check", "coin", "--cert", "-c"],
-        &held,
-        (0, 0),
-        (2, b"bad words\n"),
-    )?;
-    check_run(
-        &rt,
-        alloc,
         &["check", "", "--cert", "c"],
-        &held,
-        (0, 0),
-        (2, b"bad words\n"),
-    )?;
-    check_run(
-        &rt,
-        alloc,
         &["solve", "coin", "--cert", "c"],
-        &held,
-        (0, 0),
-        (2, b"bad words\n"),
-    )?;
-    // The first read, the second read, and the put.
-    check_run(&rt, alloc, &CHECK, &held, (1, 0), (3, b"read failed\n"))?;
-    check_run(&rt, alloc, &CHECK, &held, (2, 0), (3, b"read failed\n"))?;
-    check_run(&rt, alloc, &CHECK, &held, (3, 0), (0, ACCEPTED))?;
-    check_run(&rt, alloc, &CHECK, &held, (0, 1), (4, b""))?;
-    check_run(&rt, alloc, &CHECK, &held, (0, 2), (0, ACCEPTED))?;
-    check_run(&rt, alloc, &CHECK, &held, (1, 1), (4, b""))?;
-    // Names that are not held.
-    check_run(
-        &rt,
-        alloc,
-        &CHECK,
-        &[("coin", COIN)],
-        (0, 0),
-        (3, b"read failed\n"),
-    )?;
-    check_run(
-        &rt,
-        alloc,
-        &CHECK,
-        &[("c", BALANCED)],
-        (0, 0),
-        (3, b"read failed\n"),
-    )?;
-    // Texts that are not read: the certificate is not looked for.
-    check_run(
-        &rt,
-        alloc,
-        &CHECK,
-        &[("coin", b"")],
-        (0, 0),
-        (6, b"refused 10 1:0\n"),
-    )?;
-    check_run(
-        &rt,
-        alloc,
-        &CHECK,
-        &[("coin", b"(define (domain coin))")],
-        (0, 0),
-        (6, b"refused 10 1:0\n"),
-    )?;
+    ];
+    for words in rows {
+        check_run(&rt, rt.alloc(), words, &HELD, (0, 0), (2, b"bad words\n"))?;
+    }
+    Ok(())
+}
+
+/// The calls that fail: the first read, the second read and the put; there are no further ones.
+#[test]
+fn calls_that_fail(rt: HostRuntime) -> Result<(), Fail> {
+    let rows: [((u64, u64), u8, &[u8]); 6] = [
+        ((1, 0), 3, b"read failed\n"),
+        ((2, 0), 3, b"read failed\n"),
+        ((3, 0), 0, ACCEPTED),
+        ((0, 1), 4, b""),
+        ((0, 2), 0, ACCEPTED),
+        ((1, 1), 4, b""),
+    ];
+    for (failing, status, text) in rows {
+        check_run(&rt, rt.alloc(), &CHECK, &HELD, failing, (status, text))?;
+    }
+    Ok(())
+}
+
+/// Names that are not held, and texts that are refused before the certificate is looked for.
+#[test]
+fn files_that_are_missing_or_refused(rt: HostRuntime) -> Result<(), Fail> {
+    let rows: [(&str, &[u8], u8, &[u8]); 4] = [
+        ("coin", COIN, 3, b"read failed\n"),
+        ("c", BALANCED, 3, b"read failed\n"),
+        ("coin", b"", 6, b"refused 10 1:0\n"),
+        ("coin", b"(define (domain coin))", 6, b"refused 10 1:0\n"),
+    ];
+    for (name, bytes, status, text) in rows {
+        let files = [(name, bytes)];
+        check_run(&rt, rt.alloc(), &CHECK, &files, (0, 0), (status, text))?;
+    }
     Ok(())
 }
 

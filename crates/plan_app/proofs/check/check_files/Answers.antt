@@ -1,9 +1,9 @@
 -- The parts' answers as the whole request's.
-use Rattle.std.proofs.Common.{rules, ℕ, List, subst, sym}
+use Rattle.std.proofs.Common.{rules, subst}
 use Rattle.shelf_io.specs.Shelf.{MayHold}
-use Rattle.certificate.specs.Content.{Content, text_of}
+use Rattle.certificate.specs.Content.{text_of}
 use Rattle.ppddl_model.specs.Steps.{Charges}
-use Rattle.plan_app.specs.Verdict.{IsThin, IsDecoded}
+use Rattle.plan_app.specs.Verdict.{IsThin}
 use Rattle.plan_app.specs.Ending.{Concludes, CertificateStops, JudgeStops, IsReported, Reports}
 use Rattle.plan_app.proofs.Endings.{certificate_concludes, judge_concludes, judge_reports, charged_reward, if_ok, if_err}
 use Rattle.std.specs.Option.{unwrap_or}

@@ -1,11 +1,10 @@
 -- What stands under the name, by the laws of certificates' texts.
-use Rattle.std.proofs.Common.{rules, ◌≡◌, ◌<◌, ℕ, List, length, Ok, Err, subst, sym}
+use Rattle.std.proofs.Common.{rules, ◌≡◌, ◌<◌, ℕ, List, length, Ok, subst, sym}
 use Rattle.shelf_io.specs.Shelf.{MayHold}
-use Rattle.certificate.specs.Content.{Content, IsCertificate, most_bytes}
+use Rattle.certificate.specs.Content.{most_bytes}
 use Rattle.certificate.specs.Reading.{read_of}
 use Rattle.certificate.specs.Answers.{Refuses}
-use Rattle.plan_app.specs.Verdict.{IsDecoded}
-use Rattle.plan_app.specs.Ending.{CertificateStops, ending_of_refusal}
+use Rattle.plan_app.specs.Ending.{CertificateStops}
 use Rattle.plan_app.proofs.Endings.{too_long_held, decoded_held, only_decoded, refusal_stops, none_longer}
 use Rattle.plan_app.proofs.check.read_certificate.Goals as goal
 

@@ -1,4 +1,4 @@
-use Rattle.std.proofs.Common.{◌≡◌, true, false, sym, ap, ◌∙◌, get_or, bit_or, arith}
+use Rattle.std.proofs.Common.{◌≡◌, true, false, get_or, arith}
 use Rattle.ppddl_model.specs.State.{same_name}
 use Rattle.std.proofs.lemmas.Map.Text.{is_eq-slice_cmp}
 use Rattle.plan_app.proofs.Bits.{bits_where-set, bits_where-skip}

@@ -1,4 +1,4 @@
-use Rattle.std.proofs.Common.{◌≡◌, ◌==◌, true, false, ◌&&◌, not, cond, Some, None, refl, sym, ap, ◌∙◌, get_or, bit_or, arith}
+use Rattle.std.proofs.Common.{◌≡◌, ◌==◌, true, false, ◌&&◌, not, cond, Some, None, refl, sym, ap, ◌∙◌, get_or, arith}
 use Rattle.std.proofs.lemmas.Bool.{ne_eqb}
 use Rattle.std.proofs.lemmas.List.Folds.{list_all_at, list_all_more}
 use Rattle.plan_app.specs.Bits.{is_known, bits_of_text, bits_of_texts}

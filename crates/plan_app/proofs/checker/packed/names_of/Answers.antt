@@ -1,5 +1,4 @@
-use Rattle.std.proofs.Common.{◌≡◌, sym, ap, subst, ◌∙◌, take, ◌+◌, arith}
-use Rattle.std.specs.List.{AllZip}
+use Rattle.std.proofs.Common.{◌≡◌, sym, ap, ◌∙◌, arith}
 use Rattle.plan_app.specs.Packed.{MakesTrue, thin_effect, atom_of}
 use Rattle.plan_app.proofs.Zips.{AllZip-more}
 use Rattle.plan_app.proofs.checker.packed.names_of.Goals as goal

@@ -1,9 +1,8 @@
-use Rattle.std.proofs.Common.{◌≡◌, sym, ap, subst, ◌∙◌, take, ◌+◌, get_or, arith}
-use Rattle.std.specs.List.{AllZip}
+use Rattle.std.proofs.Common.{sym, ap, subst, ◌∙◌, arith}
 use Rattle.std.proofs.lemmas.List.Elements.{Contains-get_or}
 use Rattle.ppddl_model.specs.State.{same_name}
 use Rattle.plan_app.specs.Bits.{bits_where}
-use Rattle.plan_app.specs.Packed.{IsThin, IsStepOf, thin_effect, atom_of}
+use Rattle.plan_app.specs.Packed.{IsThin, IsStepOf}
 use Rattle.plan_app.proofs.Facts.{IsChance, chance_of_thin}
 use Rattle.plan_app.proofs.Zips.{AllZip-more}
 use Rattle.plan_app.proofs.checker.packed.steps_of.Goals as goal

@@ -1,4 +1,4 @@
-use Rattle.std.proofs.Common.{◌≡◌, nat_eq, sym, ap, ◌∙◌, rules, tests}
+use Rattle.std.proofs.Common.{nat_eq, sym, ap, ◌∙◌, rules, tests}
 use Rattle.std.specs.Prelude.{option_map}
 use Rattle.std.specs.Cmp.Lexicographic.{pointwise}
 use Rattle.std.proofs.lemmas.Iterator.{YieldsList-from_slice}

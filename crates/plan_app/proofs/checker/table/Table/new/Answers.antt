@@ -1,4 +1,4 @@
-use Rattle.std.proofs.Common.{◌≡◌, None, sym, ap, ◌∙◌, arith}
+use Rattle.std.proofs.Common.{sym, ap, ◌∙◌, arith}
 use Rattle.std.specs.List.{list_all}
 use Rattle.plan_app.specs.Bits.{is_known, bits_of_texts}
 use Rattle.plan_app.proofs.Rows.{known_from_bits, none_from_test, some_from_test, IsFilled-more, not_rows}
