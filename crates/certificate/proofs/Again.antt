@@ -1,23 +1,23 @@
 -- What is spelled as a certificate is read as that certificate.
-use Rattle.std.proofs.Common.{◌≡◌, ℕ, zero, suc, ◌+◌, ◌<◌, ◌≤◌, Bool, true, false, cond, ◌&&◌, ltb, List, [], ◌∷◌, ◌++◌, length, map, Option, Some, None, Result, Ok, Err, refl, ap, sym, subst, ◌∙◌, inl, inr, arith, append_assoc}
+use Rattle.std.proofs.Common.{◌≡◌, ℕ, ◌+◌, ◌<◌, ◌≤◌, true, false, ltb, List, [], ◌∷◌, ◌++◌, length, map, Option, Some, None, Result, Ok, Err, refl, ap, sym, ◌∙◌, inl, inr, arith, append_assoc}
 use Rattle.std.specs.Prelude.{codes, decimal, IfOk}
 use Rattle.std.specs.List.{join_with_byte, AllByRecursion}
 use Rattle.std.specs.Str.{bytes_eq}
-use Rattle.std.proofs.lemmas.Bool.{cases_Bool, and_parts, le-ltb, lt-ltb, ltb-true, ltb-false}
+use Rattle.std.proofs.lemmas.Bool.{cases_Bool, and_parts, le-ltb, ltb-false}
 use Rattle.std.proofs.lemmas.List.Splits.{join_with_byte-slice_split}
 use Rattle.certificate.specs.declared.model.Row.{Row}
 use Rattle.certificate.specs.declared.refusal.CertRefusal.{CertRefusal}
-use Rattle.certificate.specs.declared.refusal.CertRefusal.TheVariants.{Syntax, Order, Count, TooLong}
+use Rattle.certificate.specs.declared.refusal.CertRefusal.TheVariants.{TooLong}
 use Rattle.certificate.specs.Spelling.{penalty_line, interval_line, states_line, row_line}
-use Rattle.certificate.specs.Content.{Content, most_units, most_rows, most_bytes, rises, rises_behind, compare_texts, compare_atoms, IsRow, IsCertificate, lines_of, text_of, IsTextOf}
+use Rattle.certificate.specs.Content.{Content, most_units, most_rows, most_bytes, rises, compare_texts, IsRow, IsCertificate, lines_of, text_of, IsTextOf}
 use Rattle.certificate.specs.Decoding.{parts, penalty_of, interval_of, count_of, field_at, row_of}
-use Rattle.certificate.specs.Reading.{◌>>=◌, or_syntax, line_at, said_at, header_of, follows, row_at, rows_at, end_at, read_lines, read_of}
+use Rattle.certificate.specs.Reading.{line_at, said_at, header_of, follows, row_at, rows_at, read_lines, read_of}
 use Rattle.certificate.specs.Answers.{Gives}
 use Rattle.certificate.proofs.Decimals.{decimal_lacks}
 use Rattle.certificate.proofs.Parts.{HasFirst, parts_ended, join_ended}
 use Rattle.certificate.proofs.Names.{Lacks, Lacks-append}
 use Rattle.certificate.proofs.RowLaws.{row_again, row_lacks_feed}
-use Rattle.certificate.proofs.TextLaws.{Stand, rise_behind, rise-cons, header_is, penalty_is, penalty_again, interval_is, interval_again, count_is, count_again, end_again, read_is, ok_is, untested, same_text}
+use Rattle.certificate.proofs.TextLaws.{Stand, rise_behind, rise-cons, penalty_again, interval_again, count_again, end_again, read_is, ok_is, untested, same_text}
 
 -- ---- rows
 

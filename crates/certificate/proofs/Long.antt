@@ -1,12 +1,11 @@
 -- Only a text above the greatest length is refused as too long.
-use Rattle.std.proofs.Common.{◌≡◌, ℕ, zero, suc, ◌+◌, ◌<◌, ◌≤◌, Bool, true, false, cond, ◌&&◌, ltb, eqb, List, [], ◌∷◌, length, Option, Some, None, Result, Ok, Err, refl, ap, sym, ◌∙◌, inl, inr}
+use Rattle.std.proofs.Common.{◌≡◌, ℕ, zero, suc, ◌+◌, ◌<◌, Bool, true, false, cond, ◌&&◌, ltb, eqb, List, [], ◌∷◌, length, Option, Some, None, Result, Ok, Err, refl, inl, inr}
 use Rattle.std.specs.Prelude.{codes}
 use Rattle.std.specs.Str.{bytes_eq}
 use Rattle.std.proofs.lemmas.Bool.{cases_Bool, ltb-true, lt-ltb}
-use Rattle.certificate.specs.declared.model.Row.{Row}
 use Rattle.certificate.specs.declared.refusal.CertRefusal.{CertRefusal}
 use Rattle.certificate.specs.declared.refusal.CertRefusal.TheVariants.{Syntax, Order, Count, TooLong}
-use Rattle.certificate.specs.Content.{Content, most_bytes, rises, compare_texts}
+use Rattle.certificate.specs.Content.{most_bytes, rises, compare_texts}
 use Rattle.certificate.specs.Decoding.{parts, penalty_of, interval_of, count_of, row_of}
 use Rattle.certificate.specs.Reading.{◌>>=◌, or_syntax, line_at, said_at, header_of, follows, row_at, rows_at, nothing_at, end_at, read_lines, read_of}
 

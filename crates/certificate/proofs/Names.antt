@@ -1,9 +1,9 @@
 -- Lists of names: what was read is one, and one is read again.
-use Rattle.std.proofs.Common.{◌≡◌, ℕ, ◌<◌, ◌≤◌, Bool, true, false, ◌&&◌, ◌||◌, eqb, leb, List, [], ◌∷◌, ◌++◌, length, refl, ap, sym, ◌∙◌, inl, inr, arith, append_assoc}
+use Rattle.std.proofs.Common.{◌≡◌, ℕ, ◌<◌, ◌≤◌, Bool, true, false, ◌&&◌, ◌||◌, eqb, leb, List, [], ◌∷◌, ◌++◌, length, refl, ap, sym, inl, inr, arith}
 use Rattle.std.specs.List.{list_any, list_all, join_with_byte, AllByRecursion}
 use Rattle.std.proofs.lemmas.Bool.{and_parts, or_cases, leb-true, eqb-true, ne_eqb}
 use Rattle.std.proofs.lemmas.List.Splits.{join_with_byte-slice_split}
-use Rattle.certificate.specs.Names.{is_letter, is_digit, is_name_byte, is_name, begins_with_letter, is_reserved, list_text, IsNameList}
+use Rattle.certificate.specs.Names.{is_letter, is_digit, is_name_byte, is_name, begins_with_letter, IsNameList}
 use Rattle.certificate.specs.Decoding.{parts, are_names, enclosed}
 use Rattle.certificate.proofs.Parts.{HasFirst-parts, parts_join}
 

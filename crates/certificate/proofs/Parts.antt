@@ -1,6 +1,6 @@
 -- A text that is cut at each of a byte.
-use Rattle.std.proofs.Common.{◌≡◌, ℕ, Bool, true, false, cond, eqb, List, [], ◌∷◌, ◌++◌, Option, Some, None, option_map, Result, Ok, Err, refl, ap, sym, ◌∙◌, inl, inr, ◌<◌, length, arith, append_assoc}
-use Rattle.std.specs.List.{slice_split, onto_first, list_any, join_with_byte, flat_map, AllByRecursion}
+use Rattle.std.proofs.Common.{◌≡◌, ℕ, true, false, cond, eqb, List, [], ◌∷◌, ◌++◌, Some, None, option_map, Ok, refl, ap, sym, ◌∙◌, inl, inr, ◌<◌, length, arith, append_assoc}
+use Rattle.std.specs.List.{onto_first, list_any, join_with_byte, flat_map, AllByRecursion}
 use Rattle.std.proofs.lemmas.Bool.Decides.{eqb_tells}
 use Rattle.std.proofs.lemmas.List.{append-nil}
 use Rattle.certificate.specs.Decoding.{cut, parts}

@@ -1,8 +1,8 @@
 -- A row and its line: what was read is spelled so, and what is spelled so is read.
-use Rattle.std.proofs.Common.{◌≡◌, ℕ, ◌<◌, ◌≤◌, Bool, true, false, eqb, List, [], ◌∷◌, ◌++◌, length, Option, Some, None, option_map, refl, ap, sym, subst, ◌∙◌, inl, inr, arith, append_assoc}
-use Rattle.std.specs.Prelude.{codes, decimal, option_and_then}
+use Rattle.std.proofs.Common.{◌≡◌, ℕ, ◌≤◌, eqb, List, [], ◌∷◌, ◌++◌, length, Some, None, option_map, refl, ap, sym, subst, ◌∙◌, inl, inr, arith, append_assoc}
+use Rattle.std.specs.Prelude.{codes, decimal}
 use Rattle.std.specs.Option.{option_or}
-use Rattle.std.specs.List.{list_any, join_with_byte, flat_map, AllByRecursion}
+use Rattle.std.specs.List.{join_with_byte, flat_map, AllByRecursion}
 use Rattle.std.proofs.lemmas.Bool.{eqb-true}
 use Rattle.std.proofs.lemmas.List.{nil_from_length}
 use Rattle.std.proofs.lemmas.List.Splits.{join_with_byte-slice_split}
@@ -14,10 +14,9 @@ use Rattle.certificate.specs.Spelling.{spaced, act_text, atoms_text, row_line}
 use Rattle.certificate.specs.Content.{most_units, IsAct, IsRow}
 use Rattle.certificate.specs.Decoding.{◌>>=◌, only_if, behind, cut, parts, number_of, are_names, enclosed, list_at, word_at, act_at, atom_of, atom_at, atoms_of, field_at, row_of}
 use Rattle.certificate.proofs.Steps.{some_is, kept, chained, mapped, either}
-use Rattle.certificate.proofs.Cuts.{behind_is_rest, behind_again, cut_is_parts, cut_again}
+use Rattle.certificate.proofs.Cuts.{behind_is_rest, cut_is_parts, cut_again}
 use Rattle.certificate.proofs.Decimals.{number_is, number_again, decimal_lacks}
-use Rattle.certificate.proofs.Parts.{parts_whole}
-use Rattle.certificate.proofs.Names.{Lacks, Lacks-append, IsInner, list_inner, enclosed_is_list, list_lacks_feed}
+use Rattle.certificate.proofs.Names.{Lacks, Lacks-append, list_inner, enclosed_is_list, list_lacks_feed}
 use Rattle.certificate.proofs.Atoms.{atoms_more}
 
 -- ---- a number that a blank ends

@@ -1,27 +1,23 @@
 -- A certificate and its text: what was read is spelled so, and what is spelled so is read.
-use Rattle.std.proofs.Common.{◌≡◌, ℕ, zero, suc, ◌+◌, ◌<◌, ◌≤◌, Bool, true, false, cond, ◌&&◌, eqb, ltb, leb, List, [], ◌∷◌, ◌++◌, length, map, Option, Some, None, Result, Ok, Err, refl, ap, sym, subst, ◌∙◌, inl, inr, arith, append_assoc, Ordering}
+use Rattle.std.proofs.Common.{◌≡◌, ℕ, zero, suc, ◌+◌, ◌≤◌, Bool, true, false, cond, ◌&&◌, eqb, ltb, leb, List, [], ◌∷◌, ◌++◌, length, map, Option, Some, None, Result, Ok, Err, refl, ap, sym, subst, ◌∙◌, arith, append_assoc}
 use Rattle.std.specs.Prelude.{codes, decimal, IsTrue}
-use Rattle.std.specs.List.{join_with_byte, flat_map, AllByRecursion}
-use Rattle.std.specs.Ordering.{is_lt}
+use Rattle.std.specs.List.{AllByRecursion}
 use Rattle.std.specs.Str.{bytes_eq}
-use Rattle.std.proofs.lemmas.Bool.{and_parts, eqb-true, leb-true, ltb-true, lt-ltb, le-leb, le-ltb, ltb-false}
+use Rattle.std.proofs.lemmas.Bool.{and_parts, eqb-true, leb-true, ltb-true, lt-ltb, le-leb}
 use Rattle.std.proofs.lemmas.List.{nil_from_length}
-use Rattle.std.proofs.lemmas.List.Splits.{join_with_byte-slice_split}
 use Rattle.std.proofs.lemmas.Slice.Eq.{bytes_eq-Decides}
 use Rattle.certificate.specs.declared.model.Row.{Row}
 use Rattle.certificate.specs.declared.refusal.CertRefusal.{CertRefusal}
-use Rattle.certificate.specs.declared.refusal.CertRefusal.TheVariants.{Syntax, Order, Count, TooLong}
+use Rattle.certificate.specs.declared.refusal.CertRefusal.TheVariants.{Syntax, Order, Count}
 use Rattle.certificate.specs.Spelling.{spaced, penalty_line, interval_line, states_line, row_line}
-use Rattle.certificate.specs.Content.{Content, most_units, most_rows, most_bytes, rises, rises_behind, compare_texts, compare_atoms, IsRow, IsCertificate, lines_of, text_of}
+use Rattle.certificate.specs.Content.{Content, most_units, most_rows, rises, rises_behind, compare_texts, compare_atoms, IsRow, IsCertificate, lines_of}
 use Rattle.certificate.specs.Decoding.{only_if, behind, parts, number_of, field_at, penalty_of, interval_of, count_of, row_of}
 use Rattle.certificate.specs.Decoding as decoding
-use Rattle.certificate.specs.Reading.{◌>>=◌, or_syntax, line_at, said_at, header_of, follows, row_at, rows_at, nothing_at, end_at, read_lines, read_of}
+use Rattle.certificate.specs.Reading.{◌>>=◌, or_syntax, line_at, said_at, header_of, follows, row_at, rows_at, nothing_at, end_at, read_lines}
 use Rattle.certificate.proofs.Steps.{some_is, kept, chained}
-use Rattle.certificate.proofs.Cuts.{behind_is_rest, behind_again}
-use Rattle.certificate.proofs.Decimals.{number_is, number_again, decimal_lacks}
-use Rattle.certificate.proofs.Parts.{parts_ended, join_ended}
-use Rattle.certificate.proofs.Names.{Lacks, Lacks-append}
-use Rattle.certificate.proofs.RowLaws.{field_is, field_again, row_is, row_again, row_lacks_feed}
+use Rattle.certificate.proofs.Cuts.{behind_is_rest}
+use Rattle.certificate.proofs.Decimals.{number_is, number_again}
+use Rattle.certificate.proofs.RowLaws.{field_is, field_again, row_is}
 
 -- ---- steps that did not fail
 

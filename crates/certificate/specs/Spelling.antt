@@ -3,7 +3,7 @@
 --     act_text a             `give-up`, `goal`, or the action's name
 --     atoms_text atoms       `:`, and each atom behind a blank
 --     row_line r             `L U ACT : ATOM ATOM`
-use Rattle.std.specs.Prelude.{ℕ, List, [], ◌∷◌, ◌++◌, codes, decimal}
+use Rattle.std.specs.Prelude.{ℕ, List, ◌∷◌, ◌++◌, codes, decimal}
 use Rattle.std.specs.List.{flat_map}
 use Rattle.certificate.specs.declared.model.Act.{Act}
 use Rattle.certificate.specs.declared.model.Act.TheVariants.{GiveUp, Goal, Do}

@@ -1,5 +1,5 @@
-use Rattle.certificate.proofs.TextLaws.{penalty_is, penalty_again, interval_is, interval_again, count_is, count_again}
-use Rattle.certificate.proofs.RowLaws.{row_is, row_again}
+use Rattle.certificate.proofs.TextLaws.{penalty_is, interval_is, count_is}
+use Rattle.certificate.proofs.RowLaws.{row_is}
 use Rattle.certificate.proofs.Again.{read_is_text, text_is_read, texts_differ, as_penalty, as_interval, as_count, as_row}
 use Rattle.certificate.proofs.Long.{is_long, long_is_refused}
 use Rattle.certificate.proofs.laws.text_laws.Goals as goal

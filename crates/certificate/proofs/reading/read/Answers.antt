@@ -1,6 +1,5 @@
-use Rattle.std.proofs.Common.{Ok, subst}
+use Rattle.std.proofs.Common.{subst}
 use Rattle.certificate.specs.Answers.{Gives}
-use Rattle.certificate.specs.Reading.{read_of}
 use Rattle.certificate.proofs.Again.{is_found, text_is_read}
 use Rattle.certificate.proofs.reading.read.Goals as goal
 

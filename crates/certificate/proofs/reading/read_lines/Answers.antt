@@ -1,5 +1,4 @@
-use Rattle.std.proofs.Common.{◌≡◌, ◌+◌, None, Ok, Result, refl}
-use Rattle.certificate.specs.declared.refusal.CertRefusal.{CertRefusal}
+use Rattle.std.proofs.Common.{◌≡◌, Ok, refl}
 use Rattle.certificate.specs.Content.{Content}
 use Rattle.certificate.specs.Decoding.{parts}
 use Rattle.certificate.specs.Reading.{read_lines}

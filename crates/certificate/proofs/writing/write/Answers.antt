@@ -1,9 +1,9 @@
-use Rattle.std.proofs.Common.{◌≡◌, ◌∙◌, ◌+◌, ◌<◌, ◌≤◌, List, ℕ, ◌++◌, length, take, ◌∷◌, [], ap, sym, arith}
+use Rattle.std.proofs.Common.{◌≡◌, ◌∙◌, ◌+◌, List, ℕ, ◌++◌, length, take, ◌∷◌, [], ap, sym, arith}
 use Rattle.std.specs.List.{flat_map}
 use Rattle.std.specs.Prelude.{codes}
 use Rattle.std.proofs.lemmas.List.{take_all}
 use Rattle.certificate.specs.declared.model.Row.{Row}
-use Rattle.certificate.specs.Content.{most_bytes, head_lines, ended, text_of}
+use Rattle.certificate.specs.Content.{head_lines, ended, text_of}
 use Rattle.certificate.proofs.Appended.{row_text, row_more, text_is, text_longer}
 use Rattle.certificate.proofs.writing.write.Goals as goal
 

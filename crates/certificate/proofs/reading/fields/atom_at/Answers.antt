@@ -1,4 +1,4 @@
-use Rattle.std.proofs.Common.{◌≡◌, ◌∙◌, ◌+◌, ◌≤◌, length, take, sym}
+use Rattle.std.proofs.Common.{◌∙◌, sym}
 use Rattle.certificate.proofs.Lists.{atom_found, atom_fits, atom_taken, atom_is}
 use Rattle.certificate.proofs.reading.fields.atom_at.Goals as goal
 

@@ -1,4 +1,4 @@
-use Rattle.std.proofs.Common.{◌≡◌, ℕ, ◌+◌, ◌<◌, arith, add-one, length, get_or, sym}
+use Rattle.std.proofs.Common.{◌+◌, arith, add-one, sym}
 use Rattle.certificate.proofs.Cuts.{cut_first, cut_none, take_rest}
 use Rattle.certificate.proofs.reading.fields.cut.Goals as goal
 

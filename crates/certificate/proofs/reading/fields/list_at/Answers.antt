@@ -1,4 +1,4 @@
-use Rattle.std.proofs.Common.{◌≡◌, ◌+◌, ◌≤◌, length, take, Some, sym, ap, ◌∙◌, arith, refl}
+use Rattle.std.proofs.Common.{sym, ◌∙◌}
 use Rattle.std.proofs.lemmas.List.{length-take-le}
 use Rattle.certificate.proofs.Lists.{list_found, list_fits, list_taken, list_is}
 use Rattle.certificate.proofs.reading.fields.list_at.Goals as goal

@@ -1,8 +1,7 @@
-use Rattle.std.proofs.Common.{◌≡◌, ◌∙◌, ℕ, ◌+◌, ◌*◌, ◌<◌, ◌≤◌, arith, length, drop, get_or, sym, refl}
+use Rattle.std.proofs.Common.{◌≡◌, ◌∙◌, ◌+◌, ◌*◌, arith, drop, sym, refl}
 use Rattle.std.specs.Str.{all_ascii_digits}
 use Rattle.std.proofs.lemmas.List.{at_drop_all}
-use Rattle.certificate.specs.Content.{most_units}
-use Rattle.certificate.specs.Decoding.{number_after, number_of}
+use Rattle.certificate.specs.Decoding.{number_after}
 use Rattle.certificate.proofs.Decimals.{not_plain, no_digits, not_digit, digits_more, number_after_more, number_after_ge, too_great, is_number}
 use Rattle.certificate.proofs.reading.fields.number_of.Goals as goal
 

@@ -1,4 +1,4 @@
-use Rattle.std.proofs.Common.{◌≡◌, ◌∙◌, ◌<◌, Ordering, Equal, true, false, length, min, sym, ap, arith, refl}
+use Rattle.std.proofs.Common.{◌≡◌, ◌∙◌, ◌<◌, Equal, true, length, sym, arith}
 use Rattle.std.specs.Ordering.{is_ne}
 use Rattle.certificate.specs.Content.{compare_texts, compare_atoms}
 use Rattle.certificate.proofs.Rising.{compare_on, compare_first, compare_lengths, is_level}

@@ -1,5 +1,5 @@
-use Rattle.std.proofs.Common.{◌≡◌, ◌∙◌, Bool, true, false, is_ge, sym, ap}
-use Rattle.certificate.specs.Content.{compare_texts, rises}
+use Rattle.std.proofs.Common.{◌≡◌, ◌∙◌, true, false, is_ge, sym}
+use Rattle.certificate.specs.Content.{compare_texts}
 use Rattle.certificate.proofs.Rising.{rises_start, rises_on, rises_no_more, rises_to_end}
 use Rattle.certificate.proofs.reading.order.rises.Goals as goal
 

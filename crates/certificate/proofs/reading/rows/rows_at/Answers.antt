@@ -1,8 +1,8 @@
-use Rattle.std.proofs.Common.{◌≡◌, ◌∙◌, ◌+◌, ◌-◌, None, Ok, sym}
+use Rattle.std.proofs.Common.{None}
 use Rattle.std.proofs.lemmas.Result.{err_from_is_err_and}
 use Rattle.certificate.specs.Decoding.{parts}
-use Rattle.certificate.specs.Reading.{line_at, row_at, rows_at}
-use Rattle.certificate.proofs.RowLoop.{last_of, last_shown, goes_on, ends_at_line, ends_at_row, is_done}
+use Rattle.certificate.specs.Reading.{rows_at}
+use Rattle.certificate.proofs.RowLoop.{last_shown, goes_on, ends_at_line, ends_at_row, is_done}
 use Rattle.certificate.proofs.reading.rows.rows_at.Goals as goal
 
 pub returns-in_err-text : goal.returns-in_err-text
