@@ -4,4 +4,5 @@ pub mod Content
 pub mod Decoding
 pub mod Reading
 pub mod Answers
+pub mod Examples
 pub mod Laws

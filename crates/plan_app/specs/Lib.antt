@@ -8,3 +8,4 @@ pub mod Bits
 pub mod Packed
 pub mod Table
 pub mod Laws
+pub mod Examples

@@ -3,4 +3,5 @@ pub mod Grammar
 pub mod ThinTask
 pub mod ThinText
 pub mod Derivation
+pub mod Examples
 pub mod Laws
