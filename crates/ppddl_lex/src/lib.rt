@@ -9,7 +9,7 @@ mod words;
 pub use lexer::{next_token, tokens};
 pub use plain_list::List;
 pub use refusal::LexRefusal;
-pub use words::{is_flag, is_name, is_reserved, is_same_word, is_variable};
+pub use words::{is_flag, is_name, is_reserved, is_same_word, is_variable, lowered_byte};
 
 /// What a token is.
 #[derive(Clone, Copy, Debug, PartialEq, Eq)]

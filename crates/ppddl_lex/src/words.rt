@@ -24,7 +24,7 @@ const RESERVED: [&[u8]; 15] = [
 ];
 
 /// A byte, with A to Z read as a to z.
-fn lowered_byte(byte: u8) -> u8
+pub fn lowered_byte(byte: u8) -> u8
     ensures { result ≡ lowered_byte byte }
 {
     match byte {

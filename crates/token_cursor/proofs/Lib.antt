@@ -1,7 +1,6 @@
 pub mod Spelled
 pub mod Tokens
 pub mod Closed
-pub mod Words
 pub mod Results
 pub mod Steps
 pub mod Taken

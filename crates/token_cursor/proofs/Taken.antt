@@ -1,16 +1,12 @@
--- What was read is a form, the rest of a group or the rest of a text that stood in front of what lies ahead now, and what
--- stands in front is read.
---     one_taken, rest_taken, all_taken     what was read
---     one_reads, rest_reads                what stands in front is read
---     one_found, one_only                  the same of what a call answered
+-- What was read is a form that stood in front of what lies ahead now, and a form that stands in front is read.
+--     one_taken              what was read
+--     one_reads              what stands in front is read
+--     one_found, one_only    the same of what a call answered
 use Rattle.std.proofs.Common.{◌≡◌, Result, Ok, Err, IfOk, refl, ap, subst, ◌∙◌}
-use Rattle.ppddl_model.specs.declared.refusal.TextCode.{TextCode}
-use Rattle.ppddl_model.specs.declared.refusal.TextCode.TheVariants.{Expected}
 use Rattle.ppddl_model.specs.declared.refusal.TextRefusal.{TextRefusal}
-use Rattle.token_cursor.specs.declared.place.Place.{Place}
-use Rattle.token_cursor.specs.Forms.{Form, Forms, none, more}
+use Rattle.token_cursor.specs.Forms.{Form, none, more}
 use Rattle.token_cursor.specs.Ahead.{Ahead, top, inner, put}
-use Rattle.token_cursor.specs.Reading.{Fault, fails, ◌>>=◌, Gives, read_to, one_at, rest_at, all_at}
+use Rattle.token_cursor.specs.Reading.{Fault, Gives, read_to, one_at}
 use Rattle.token_cursor.proofs.Results.{read_ok}
 
 pub one_taken : {A : Type 0} (read : Form → Result A Fault) (h k : Ahead) (x : A) → one_at read h ≡ read_to x k → (f : Form) × (read f ≡ Ok x) × (h ≡ put f k)
@@ -22,25 +18,6 @@ one_taken read (inner (more f fs) b out) k x is = let r = read_ok (read f) x (in
 pub one_reads : {A : Type 0} (read : Form → Result A Fault) (f : Form) (x : A) (h : Ahead) → read f ≡ Ok x → one_at read (put f h) ≡ read_to x h
 one_reads read f x (top fs e) is = rw is refl
 one_reads read f x (inner fs b out) is = rw is refl
-
-fails_not : {A B : Type 0} (r : Result A Fault) (code : TextCode) (at : Place) (x : B) (k : Ahead) → (r >>= λ y. fails {A = B × Ahead} code at) ≡ read_to x k → ⊥
-fails_not (Ok y) code at x k is = cc
-fails_not (Err f) code at x k is = cc
-
-pub rest_taken : {A : Type 0} (read : Forms → Place → Result A Fault) (h k : Ahead) (x : A) → rest_at read h ≡ read_to x k → (fs : Forms) × (b : Place) × (read fs b ≡ Ok x) × (h ≡ inner fs b k)
-rest_taken read (top fs e) k x is = absurd (fails_not (read fs e) Expected e x k is)
-rest_taken read (inner fs b out) k x is = let r = read_ok (read fs b) x out k is in (fs, b, r.0, ap (inner fs b) r.1)
-
-pub rest_reads : {A : Type 0} (read : Forms → Place → Result A Fault) (fs : Forms) (b : Place) (x : A) (h : Ahead) → read fs b ≡ Ok x → rest_at read (inner fs b h) ≡ read_to x h
-rest_reads read fs b x h is = rw is refl
-
-all_fails_not : {A B : Type 0} (r : Result A Fault) (code : TextCode) (at : Place) (x : B) → (r >>= λ y. fails {A = B} code at) ≡ Ok x → ⊥
-all_fails_not (Ok y) code at x is = cc
-all_fails_not (Err f) code at x is = cc
-
-pub all_taken : {A : Type 0} (read : Forms → Place → Result A Fault) (h : Ahead) (x : A) → all_at read h ≡ Ok x → (fs : Forms) × (e : Place) × (read fs e ≡ Ok x) × (h ≡ top fs e)
-all_taken read (top fs e) x is = (fs, e, is, refl)
-all_taken read (inner fs b out) x is = absurd (all_fails_not (read fs b) Expected b x is)
 
 -- a call that answered a value read a form, behind which the cursor stands now
 pub one_found : {X A : Type 0} (view : X → A) (read : Form → Result A Fault) (old new : Ahead) (answer : Result X TextRefusal)

@@ -8,7 +8,7 @@ use Rattle.ppddl_model.specs.declared.refusal.TextCode.TheVariants.{Expected, Tw
 use Rattle.token_cursor.specs.declared.place.Place.{Place}
 use Rattle.token_cursor.specs.Forms.{left, right, word, Form, Forms, lone, group, none, more}
 use Rattle.token_cursor.specs.Ahead.{top, inner, ahead_of, pieces_of, same}
-use Rattle.token_cursor.specs.Pieces.{last_line, text_ahead}
+use Rattle.token_cursor.specs.Pieces.{text_ahead}
 use Rattle.token_cursor.specs.Reading.{Fault, fails, ◌>>=◌, one_at, rest_at, all_at}
 use Rattle.token_cursor.specs.Sequences.{in_group, group_with, one_then, last, keyword}
 
@@ -28,9 +28,6 @@ token_at kind from to n = record { kind = kind; from = from; to = to; line = n }
 
 abbrev tokens : List Token
 tokens = token_at Left 0 1 1 ∷ token_at Word 1 4 1 ∷ token_at Word 5 6 2 ∷ token_at Right 6 7 2 ∷ token_at Word 8 9 2 ∷ []
-
-is_last_line : last_line text ≡ 3
-is_last_line = refl
 
 -- words are in lower case, and the text ends on line 3
 is_text : text_ahead text 1 tokens

@@ -1,13 +1,13 @@
 -- The pieces of a text's tokens. Words are lowered here, and nowhere else.
 --     piece text n t          the piece of the token t of a text that is number n of those read
 --     pieces text n ts        the pieces of its tokens
---     last_line text          the line on which a text ends, counted from 1
 --     text_ahead text n ts    what lies ahead at the beginning of the text
-use Rattle.std.specs.Prelude.{ℕ, ◌+◌, List, map, slice_range, count_by, ◌==◌}
+use Rattle.std.specs.Prelude.{ℕ, List, map, slice_range}
 use Rattle.ppddl_lex.specs.declared.Token.{Token}
 use Rattle.ppddl_lex.specs.declared.TokenKind.{TokenKind}
 use Rattle.ppddl_lex.specs.declared.TokenKind.TheVariants.{Left, Right, Word}
 use Rattle.ppddl_lex.specs.Words.{lowered}
+use Rattle.ppddl_lex.specs.Lexemes.{last_line}
 use Rattle.token_cursor.specs.declared.place.Place.{Place}
 use Rattle.token_cursor.specs.Forms.{Piece, left, right, word}
 use Rattle.token_cursor.specs.Ahead.{Ahead, ahead_of}
@@ -22,10 +22,6 @@ piece text n t = piece_by t.kind (lowered (slice_range text t.from t.to)) (recor
 
 abbrev pub pieces : List ℕ → ℕ → List Token → List Piece
 pieces text n ts = map (piece text n) ts
-
--- a line feed is the byte 10
-abbrev pub last_line : List ℕ → ℕ
-last_line text = count_by (λ b. b == 10) text + 1
 
 abbrev pub end_of_text : List ℕ → ℕ → Place
 end_of_text text n = record { file = n; line = last_line text }

@@ -1,17 +1,18 @@
 //! The cursor: a place between two tokens of a text. After a refusal it is not used again.
 
-ghost use Rattle.std.specs.Prelude.{◌≡◌, ◌≢◌, ◌<◌, ◌+◌, ◌^◌, length, All, true, IfOk, OnOk};
+ghost use Rattle.std.specs.Prelude.{◌≡◌, ◌≢◌, ◌<◌, ◌+◌, ◌^◌, length, All, true, IfOk, OnOk, IsErrOf};
 ghost use Rattle.ppddl_model.specs.declared.refusal.TextRefusal.TheVariants.{At};
 ghost use Rattle.ppddl_lex.specs.Tokens.{Lies, IsClosed};
-ghost use Rattle.ppddl_lex.specs.Words.{lowered, lowered_byte};
+ghost use Rattle.ppddl_lex.specs.Words.{lowered};
 ghost use Rattle.token_cursor.specs.declared.cursor.Next.TheVariants.{Word, End};
 ghost use Rattle.token_cursor.specs.Ahead.{size, is_top, pieces_of, after, next_of, place_of, word_of, has_form, is_word, same};
-ghost use Rattle.token_cursor.specs.Pieces.{pieces, text_ahead, last_line};
+ghost use Rattle.token_cursor.specs.Pieces.{pieces, text_ahead};
+ghost use Rattle.ppddl_lex.specs.Lexemes.{last_line};
 ghost use Rattle.token_cursor.specs.Reading.{Gives, one_at, rest_at, all_at, ends, opened, wanted};
 ghost use Rattle.token_cursor.specs.Sequences.{keyword, begun};
 
 use crate::place::Place;
-use ppddl_lex::{Token, TokenKind};
+use ppddl_lex::{Token, TokenKind, is_same_word, lowered_byte};
 use ppddl_model::{Text, TextCode, TextRefusal};
 use std::alloc::{AllocError, Global};
 use std::marker::Model;
@@ -96,7 +97,7 @@ impl<'a> Cursor<'a> {
         }
     }
 
-    /// The next word as the text has it, in letters of either case.
+    /// The next word, in letters of either case.
     pub fn raw_word(&self) -> &'a [u8]
         requires { next_of self.now ≡ Word }
         ensures { lowered result.now ≡ word_of self.now }
@@ -113,7 +114,7 @@ impl<'a> Cursor<'a> {
         let bytes = self
             .raw_word()
             .iter()
-            .map(|byte| lower(*byte))
+            .map(|byte| lowered_byte(*byte))
             .collect(alloc)?;
         Ok(Text::from_vec(bytes))
     }
@@ -123,7 +124,7 @@ impl<'a> Cursor<'a> {
         ensures answer { result ≡ is_word word.now self.now }
         ensures compares { next_of self.now ≡ Word → result ≡ same (word_of self.now) word.now }
     {
-        self.next() == Next::Word && is_lowered(self.raw_word(), word)
+        self.next() == Next::Word && is_same_word(self.raw_word(), word)
     }
 
     /// Where the next token stands; at the end of the text, its last line.
@@ -161,6 +162,7 @@ impl<'a> Cursor<'a> {
     pub fn expect_word(&mut self, word: &[u8], code: TextCode) -> Result<(), TextRefusal>
         ensures gives { Gives (λ _. (tt, self.new)) result (one_at (wanted word.now code) self.old) }
         ensures fewer { OnOk result (size self.new < size self.old) }
+        ensures no_memory { ¬ IsErrOf result TextRefusal.Memory }
     {
         if !self.has_form() {
             return Err(self.refusal(TextCode::Expected));
@@ -176,6 +178,7 @@ impl<'a> Cursor<'a> {
     pub fn open(&mut self) -> Result<(), TextRefusal>
         ensures gives { Gives (λ _. self.new) result (opened self.old) }
         ensures fewer { OnOk result (size self.new < size self.old) }
+        ensures no_memory { ¬ IsErrOf result TextRefusal.Memory }
     {
         if self.next() != Next::Open {
             return Err(self.refusal(TextCode::Expected));
@@ -190,6 +193,7 @@ impl<'a> Cursor<'a> {
     pub fn expect_keyword(&mut self, word: &[u8]) -> Result<(), TextRefusal>
         ensures gives { Gives (λ _. (tt, self.new)) result (one_at (keyword word.now) self.old) }
         ensures fewer { OnOk result (size self.new < size self.old) }
+        ensures no_memory { ¬ IsErrOf result TextRefusal.Memory }
     {
         self.expect_word(word, TextCode::Expected)
     }
@@ -200,6 +204,7 @@ impl<'a> Cursor<'a> {
     pub fn open_group(&mut self, word: &[u8]) -> Result<(), TextRefusal>
         ensures gives { Gives (λ _. self.new) result (begun word.now self.old) }
         ensures fewer { OnOk result (size self.new < size self.old) }
+        ensures no_memory { ¬ IsErrOf result TextRefusal.Memory }
     {
         self.open()?;
         self.expect_keyword(word)
@@ -209,6 +214,7 @@ impl<'a> Cursor<'a> {
     pub fn close(&mut self) -> Result<(), TextRefusal>
         ensures gives { Gives (λ _. (tt, self.new)) result (rest_at ends self.old) }
         ensures fewer { OnOk result (size self.new < size self.old) }
+        ensures no_memory { ¬ IsErrOf result TextRefusal.Memory }
     {
         if self.next() != Next::Close {
             return Err(self.refusal(TextCode::Expected));
@@ -219,38 +225,13 @@ impl<'a> Cursor<'a> {
 
     /// Accepts the end of the text. A token that stands next is refused as `Expected`.
     pub fn end(&self) -> Result<(), TextRefusal>
-        ensures { Gives (λ _. tt) result (all_at ends self.now) }
+        ensures gives { Gives (λ _. tt) result (all_at ends self.now) }
+        ensures no_memory { ¬ IsErrOf result TextRefusal.Memory }
     {
         if self.next() != Next::End {
             return Err(self.refusal(TextCode::Expected));
         }
         Ok(())
-    }
-}
-
-/// Whether the word `raw` is `word` once its letters are lowered.
-fn is_lowered(raw: &[u8], word: &[u8]) -> bool
-    ensures { result ≡ same (lowered raw.now) word.now }
-{
-    if raw.len() != word.len() {
-        return false;
-    }
-    for i in 0..raw.len() {
-        if lower(raw[i]) != word[i] {
-            return false;
-        }
-    }
-    true
-}
-
-/// The letters A to Z as a to z.
-fn lower(byte: u8) -> u8
-    ensures { result ≡ lowered_byte byte }
-{
-    if byte.is_ascii_uppercase() {
-        byte + 32
-    } else {
-        byte
     }
 }
 
