@@ -56,10 +56,6 @@ behind_is_rest (b ∷ front) (c ∷ text) rest e =
     let head : c ≡ b = eqb-true c b p.0 in
     rw (head, behind_is_rest front text rest p.1) refl
 
-pub behind_again : (front rest : List ℕ) → behind front (front ++ rest) ≡ Some rest
-behind_again [] rest = refl
-behind_again (b ∷ front) rest = rw (eq-eqb b b refl) (behind_again front rest)
-
 -- a text that was cut is its parts with the byte between them
 pub cut_is_parts : (c : ℕ) (text front rest : List ℕ) → cut c text ≡ Some (front, rest) → text ≡ front ++ c ∷ rest
 cut_is_parts c [] front rest e = absurd cc

@@ -119,9 +119,6 @@ count_again n few = rw (number_again n (omega arith), le-leb n most_rows few) re
 
 -- ---- rows
 
-abbrev atoms_in : Row → List (List ℕ)
-atoms_in r = r.atoms
-
 -- rows that may stand behind a row with these atoms, if there is one
 abbrev pub rise_behind : Option (List (List ℕ)) → List (List (List ℕ)) → Bool
 rise_behind None rows = rises compare_atoms rows

@@ -1,4 +1,9 @@
--- What ties the reading of a text to its spelling.
+-- The laws that tie the reading of a text to its spelling, as statements.
+--     FormsHeader, FormsPenalty, FormsInterval, FormsStates, FormsRow
+--                              a line is of the form of its place exactly where it is spelled so
+--     ReadsTexts               up to the greatest length, a certificate is read exactly where the bytes are its text
+--     RefusesLong              beyond it none is read
+--     TextsDiffer, HasOneText  no two certificates have one text, and no certificate has two
 use Rattle.std.specs.Prelude.{◌≡◌, ◌↔◌, ℕ, ◌<◌, ◌≤◌, List, length, codes, Some, Ok, Err}
 use Rattle.certificate.specs.declared.model.Row.{Row}
 use Rattle.certificate.specs.declared.refusal.CertRefusal.TheVariants.{TooLong}

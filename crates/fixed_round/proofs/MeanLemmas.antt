@@ -31,12 +31,6 @@ weighted_more ws cs vs i p q h =
     in
     grown ∙ weighted-push (take i ws) (take i cs) (take i vs) (get_or ws i 0) (get_or cs i 0) (get_or vs i 0) (omega arith) (omega arith)
 
--- the sum over a list of outcomes
-pub weighted-map : {X : Type 0} (weight cost value : X → ℕ) (xs : List X) → weighted (map weight xs) (map cost xs) (map value xs) ≡ sum_by (λ x. weight x * (cost x + value x)) xs
-weighted-map weight cost value [] = refl
-weighted-map weight cost value (x ∷ xs) =
-    ap (λ n. weight x * (cost x + value x) + n) (weighted-map weight cost value xs) ∙ sym (sum_by-cons (λ y. weight y * (cost y + value y)) x xs)
-
 pub div_ceil-le : (total den most : ℕ) → 0 < den → total ≤ den * most → div_ceil total den ≤ most
 div_ceil-le total den most some le =
     let ceiling = div_ceil_times total den some in

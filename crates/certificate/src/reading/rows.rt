@@ -14,8 +14,8 @@ use crate::refusal::CertRefusal;
 use plain_list::{List, Text};
 use std::alloc::Global;
 
-/// The length of the shortest line of a row with its line feed, as of `0 0 goal :`.
-const SHORTEST_ROW: usize = 11;
+/// The length of the shortest line of a row with its line feed, as of `0 0 (a) :`.
+const SHORTEST_ROW: usize = 10;
 
 /// The act that a text begins with, and what stands behind it. A text that begins with none is refused at this line.
 #[tactic(auto, unfolding(crate::specs::Decoding::act_at))]
