@@ -74,9 +74,7 @@ module _ (ps : List PredicateDecl) (plain : ArePlain ps) where
         effect = refl;
         costs_something = within.0;
         cost_within = within.1;
-        at_most_one = reduced.at_most_one;
-        den_positive = reduced.den_positive;
-        den_within = reduced.den_bounded;
+        probability = reduced;
         declared = atom_thin j y atoms;
       }
 

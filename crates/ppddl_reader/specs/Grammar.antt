@@ -1,7 +1,7 @@
 -- The grammar of thin texts, by cases of forms: the tree of a form, or its first fault.
 --     name                   a name, and where it stands
 --     atom ps                `( NAME )` of one of the predicates ps
---     effect ps              `( and ( decrease ( reward ) AMOUNT ) ( probabilistic PROBABILITY ATOM ) )`
+--     effect_of ps           `( and ( decrease ( reward ) AMOUNT ) ( probabilistic PROBABILITY ATOM ) )`
 --     action ps seen         `( :action NAME :effect EFFECT )`, with another name than those seen
 --     domain                 `( define ( domain NAME ) .. )`
 --     problem d              `( define ( problem NAME ) .. )` of the domain d
@@ -143,7 +143,7 @@ new_name taken f = name f >>= λ n. if taken n.text then fails Twice n.place els
 unfoldable pub predicate : List PredicateDecl → Form → Result PredicateDecl Fault
 predicate seen = in_group (one_then (new_name (declares seen)) (λ n. last (record { name = n.text; params = [] })))
 
--- ( :predicates pred* )
+-- ( :predicates PREDICATE* )
 unfoldable pub predicates_section : Form → Result (List PredicateDecl) Fault
 predicates_section = group_with (codes ":predicates") (listed predicate [])
 
@@ -223,7 +223,7 @@ facts ps seen (more f fs) b = atom ps f >>= λ a. facts ps (seen ++ item.Fact a 
 unfoldable pub init_section : List PredicateDecl → Form → Result (List InitItem) Fault
 init_section ps = group_with (codes ":init") (facts ps [])
 
--- ( :goal COND )
+-- ( :goal CONDITION )
 unfoldable pub goal_section : List PredicateDecl → Form → Result Condition Fault
 goal_section ps = group_with (codes ":goal") (one_then (condition_of ps) last)
 

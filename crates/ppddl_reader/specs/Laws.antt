@@ -1,6 +1,7 @@
--- The grammar and the derivations are one language.
+-- The grammar and the derivations are one language, and what the tasks of its texts are.
 use Rattle.std.specs.Prelude.{◌≡◌, Ok}
 use Rattle.ppddl_model.specs.declared.tree.Task.{Task}
+use Rattle.ppddl_model.specs.Chances.{AllSumWithinOne}
 use Rattle.token_cursor.specs.declared.place.Place.{Place}
 use Rattle.token_cursor.specs.Forms.{Forms}
 use Rattle.ppddl_reader.specs.Grammar.{thin_text}
@@ -18,3 +19,7 @@ DerivedIsAccepted = (fs : Forms) (e : Place) (t : Task) → IsThinText fs t → 
 -- and it is a thin task
 abbrev pub DerivedIsThin : Type 0
 DerivedIsThin = (fs : Forms) (t : Task) → IsThinText fs t → IsThinTask t
+
+-- so the weights of its steps and starts sum to their denominators
+abbrev pub ThinIsProper : Type 0
+ThinIsProper = (t : Task) → IsThinTask t → AllSumWithinOne t

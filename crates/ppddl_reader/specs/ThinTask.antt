@@ -5,6 +5,7 @@
 --     IsThinTask task                  the whole task is thin
 use Rattle.std.specs.Prelude.{◌≡◌, ◌⊎◌, ℕ, ◌^◌, ◌≤◌, List, [], ◌∷◌, length, Some, Contains}
 use Rattle.exact_fraction.specs.declared.Fraction.{Fraction}
+use Rattle.exact_fraction.specs.Numbers.{IsProbability}
 use Rattle.ppddl_model.specs.declared.tree.Atom.{Atom}
 use Rattle.ppddl_model.specs.declared.tree.Action.{Action}
 use Rattle.ppddl_model.specs.declared.tree.Condition.TheVariants as condition
@@ -27,9 +28,7 @@ pub record IsThinAction (predicates : List PredicateDecl) (action : Action) : Ty
   pub effect : action.effect ≡ effect.Both (effect.Cost cost ∷ effect.Chance (record { chance = chance; effect = effect.Add atom } ∷ []) ∷ [])
   pub costs_something : 1 ≤ cost
   pub cost_within : cost ≤ 10 ^ 12
-  pub at_most_one : chance.num ≤ chance.den
-  pub den_positive : 1 ≤ chance.den
-  pub den_within : chance.den ≤ 10 ^ 9
+  pub probability : IsProbability chance
   pub declared : IsDeclared predicates atom
 
 pub record IsThinTask (task : Task) : Type 0 where

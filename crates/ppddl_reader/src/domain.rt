@@ -161,7 +161,7 @@ fn read_flags(cursor: &mut Cursor<'_>) -> Result<(), TextRefusal>
     cursor.close()
 }
 
-/// Reads `( :predicates pred* )`.
+/// Reads `( :predicates PREDICATE* )`.
 fn read_predicates_section(
     alloc: Global,
     cursor: &mut Cursor<'_>,

@@ -27,7 +27,7 @@ fn probability_code(refusal: NumberRefusal) -> TextCode
 fn has_slash(word: &[u8]) -> bool
     ensures { result ≡ has_slash word.now }
 {
-    word.iter().any(|byte| *byte == b'/')
+    word.contains(&b'/')
 }
 
 /// Reads an amount of at least one micro-unit and at most `most` of them.

@@ -76,7 +76,7 @@ fn read_init_section(
     read_facts(alloc, cursor, predicates)
 }
 
-/// Reads `( :goal COND )`.
+/// Reads `( :goal CONDITION )`.
 fn read_goal_section(
     alloc: Global,
     cursor: &mut Cursor<'_>,

@@ -29,7 +29,8 @@ const COIN_AGAIN: &str = "(define (DOMAIN Coin) (:predicates (Done)) ; a coin
     :effect (and (decrease (reward) 1.000000) (probabilistic .50 (done)))))
 (define (problem toss) (:domain coin) (:init) (:goal ( done )) (:goal-reward 010))";
 
-/// Near misses: a quotient, a cost of 0, an atom that is not declared, the domain's name, no goal reward.
+/// Nothing, a domain alone, and near misses: a quotient, a cost of 0, an atom that is not declared, the name
+/// of another domain, no goal reward.
 const REFUSED: [&str; 7] = [
     "",
     "(define (domain coin) (:predicates (done)))",

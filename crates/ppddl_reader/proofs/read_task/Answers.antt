@@ -38,7 +38,7 @@ returns-in_err-end c =
     (all_fails_behind (located domain) (λ x. one_then (problem x.0) (λ p. last (task_of_parts x.1 x.0 p))) h e (d, place_of h) k
     (located_gives domain h d k c.in_ok-domain.ensures.gives)
     (all_fails_behind (problem d) (λ p. last (task_of_parts (place_of h) d p)) k e p j c.in_ok-problem.ensures.gives
-    (end_fails (task_of_parts (place_of h) d p) j e c.in_err-end.ensures)))
+    (end_fails (task_of_parts (place_of h) d p) j e c.in_err-end.ensures.gives)))
 
 pub returns : goal.returns
 unfolding thin_text
@@ -52,4 +52,4 @@ returns c =
     (all_gives (located domain) (λ x. one_then (problem x.0) (λ p. last (task_of_parts x.1 x.0 p))) h (d, place_of h) k _
     (located_gives domain h d k c.in_ok-domain.ensures.gives)
     (all_gives (problem d) (λ p. last (task_of_parts (place_of h) d p)) k p j _ c.in_ok-problem.ensures.gives
-    (end_gives (task_of_parts (place_of h) d p) j c.in_ok-end.ensures)))
+    (end_gives (task_of_parts (place_of h) d p) j c.in_ok-end.ensures.gives)))
