@@ -1,8 +1,7 @@
 -- The expected cost of a thin action: over the common denominator of the task, and over that of its own chance.
-use Rattle.std.proofs.Common.{◌≡◌, ℕ, ◌+◌, ◌-◌, ◌*◌, ◌/◌, ◌^◌, ◌<◌, ◌≤◌, true, false, List, [], ◌∷◌, map, nat_eq, refl, sym, ap, ◌∙◌, arith}
-use Rattle.std.proofs.lemmas.Bool.{eqb-true}
+use Rattle.std.proofs.Common.{◌≡◌, ℕ, ◌+◌, ◌-◌, ◌*◌, ◌/◌, ◌^◌, ◌<◌, ◌≤◌, [], ◌∷◌, map, sym, ap, ◌∙◌, arith}
 use Rattle.std.proofs.Math.Nat.{mul-sub, mul-le-mul_left, le_of_mul-le-mul_left, mul_comm, one-mul, pow-zero, pow-suc}
-use Rattle.weighted.specs.Mean.{total, positive}
+use Rattle.weighted.proofs.Means.{mean-positive}
 use Rattle.exact_fraction.specs.declared.Fraction.{Fraction}
 use Rattle.decision_process.specs.Process.{Outcome, expected}
 use Rattle.ppddl_model.specs.declared.tree.Task.{Task}
@@ -13,15 +12,6 @@ use Rattle.ppddl_model.specs.Steps.{Instance, Charges, world, base_cost, outcome
 use Rattle.ppddl_model.proofs.States.{without-no_atoms}
 use Rattle.plan_app.specs.Packed.{thin_effect, atom_of}
 use Rattle.plan_app.proofs.Effects.{lucky, unlucky, outcomes-thin, draws-thin}
-
--- items of weight 0 count for nothing
-pub total-positive : {C : Type 0} (w f : C → ℕ) (xs : List C) → total (λ c. w c * f c) (positive w xs) ≡ total (λ c. w c * f c) xs
-total-positive w f [] = refl
-total-positive w f (x ∷ xs) =
-    elim (nat_eq (w x) 0) as (λ b. nat_eq (w x) 0 ≡ b → total (λ c. w c * f c) (elim b [ true ↦ positive w xs | false ↦ x ∷ positive w xs ]) ≡ w x * f x + total (λ c. w c * f c) xs) [
-      | true ↦ λ e. let nothing : w x * f x ≡ 0 * f x = ap (λ n. n * f x) (eqb-true (w x) 0 e) in omega (arith, nothing, total-positive w f xs)
-      | false ↦ λ e. ap (λ t. w x * f x + t) (total-positive w f xs)
-    ] refl
 
 pub times_one : (n : ℕ) → n * 1 ≡ n
 times_one n = omega arith
@@ -103,7 +93,7 @@ module _ (task : Task) (charges : Charges) (i : Instance) (cost : ℕ) (chance :
   pub backup-thin : (v : State → ℕ) (s : State)
       → expected (λ o. o.cost + v o.next) (step task charges i s) ≡ share * (cost + v (with_atom s (name ∷ []))) + (whole - share) * (cost + v s)
   backup-thin v s =
-      total-positive (λ (o : Outcome State). o.weight) (λ o. o.cost + v o.next) (map (outcome_of task charges i s) (outcomes (world task) whole i.action.effect i.binding s))
+      mean-positive (λ (o : Outcome State). o.weight) (λ o. o) (λ o. o.cost + v o.next) (map (outcome_of task charges i s) (outcomes (world task) whole i.action.effect i.binding s))
       ∙ ap (λ l. expected (λ o. o.cost + v o.next) (map (outcome_of task charges i s) l)) (both s)
       ∙ two_outcomes share (whole ^ 0) (whole ^ 1) whole (whole ^ (most_draws (world task) task.domain.actions - draws (world task) i.action.effect)) cost (base_cost task charges)
       (v (with_atom (without s no_atoms) (name ∷ []))) (v (without s no_atoms)) (v (with_atom s (name ∷ []))) (v s)

@@ -4,7 +4,7 @@ use Rattle.std.specs.Prelude.{Contains, filter, MatchBool}
 use Rattle.std.specs.List.{AllZip}
 use Rattle.std.proofs.lemmas.Bool.{ne_eqb}
 use Rattle.std.proofs.lemmas.Bool.Decides.{when_true, when_false}
-use Rattle.weighted.proofs.Members.{Contains-first, Contains-later, Contains-cons_cases, Contains-nil}
+use Rattle.weighted.proofs.Members.{Contains-first, Contains-later, Contains-cons_cases, Contains-nil, Contains-map}
 use Rattle.decision_process.specs.Process.{Outcome, expected}
 use Rattle.decision_process.specs.Balanced.{IsBalanced}
 use Rattle.certificate.specs.declared.model.Act.{Act}
@@ -27,7 +27,6 @@ use Rattle.plan_app.specs.Values.{instance_name, first_named, row_state, row_at,
 use Rattle.plan_app.specs.Bits.{is_atom_of}
 use Rattle.plan_app.specs.Packed.{IsStepOf, Packs, is_reached, backup, after, step_named}
 use Rattle.plan_app.specs.Table.{row_bits, row_with, IsTable, lower_at, upper_at, LowerFollows, UpperFollowsStep, UpperFollows, IsRowBalanced}
-use Rattle.plan_app.proofs.Lists.{Contains-map}
 use Rattle.plan_app.proofs.Zips.{AllZip-left, AllZip-right}
 use Rattle.plan_app.proofs.Backups.{over_own}
 use Rattle.plan_app.proofs.Thin.{sole_instance, instances-thin, action_of, choices-thin}

@@ -22,8 +22,7 @@ use Rattle.plan_app.specs.declared.ending.Ending.TheVariants as ending
 use Rattle.plan_app.specs.Words.{Names}
 use Rattle.plan_app.specs.Balanced.{IsBalancedFor}
 use Rattle.plan_app.specs.Verdict.{most_text, charged_by, IsThin, IsDecoded}
-use Rattle.shelf_io.specs.Streams.{PutsPrefix}
-use Rattle.plan_app.specs.Ending.{EndsWith, Ends, status_of, ending_text, Concludes, TextStops, TaskStops, CertificateStops, JudgeStops, IsReported, Reports, ending_of_refusal}
+use Rattle.plan_app.specs.Ending.{Concludes, CertificateStops, JudgeStops, IsReported, Reports, ending_of_refusal}
 
 longer_held : (told : Told) (limit : ℕ) → (told ≡ Missing → ⊥) → ((bytes : List ℕ) → told ≡ Holds bytes → limit < length bytes)
     → (bytes : List ℕ) × MayHold told bytes × (limit < length bytes)
@@ -39,46 +38,21 @@ pub too_long_held : {T : Type 0} (told : Told) (limit : ℕ) (result : Result T 
 too_long_held told limit result is missing over =
     longer_held told limit (λ e. elim (missing e) [ inl failed ↦ absurd (cc (is, failed)) | inr memory ↦ absurd (cc (is, memory)) ]) (over is)
 
--- a count that rose by some moment has risen at each later one
-pub rose_later : (before mid now : ℕ) → mid ≤ now → Rose before mid → Rose before now
-rose_later before mid now later rose = omega (arith, later, rose)
-
+-- a count that rose since some moment has risen since each earlier one
 pub rose_since : (before mid now : ℕ) → before ≤ mid → Rose mid now → Rose before now
 rose_since before mid now earlier rose = omega (arith, earlier, rose)
 
 module _ (q : Names) (held : List ℕ → Told) (before mid now : ℕ) where
-  pub text_concludes : (e : Ending) → mid ≤ now → TextStops q held before mid e → Concludes q held before now e
-  text_concludes ending.NoMemory later stop = tt
-  text_concludes ending.ReadFailed later (inl rose) = inl (rose_later before mid now later rose)
-  text_concludes ending.ReadFailed later (inr missing) = inr (inl missing)
-  text_concludes ending.TooLong later stop = stop
-  text_concludes ending.BadWords later stop = absurd stop
-  text_concludes ending.Refused later stop = absurd stop
-  text_concludes ending.NotAccepted later stop = absurd stop
-  text_concludes (ending.Accepted report) later stop = absurd stop
-
-  pub task_concludes : (domain : List ℕ) (e : Ending) → MayHold (held q.domain) domain → length domain ≤ most_text → TaskStops domain e → Concludes q held before now e
-  task_concludes domain ending.NoMemory holds short stop = tt
-  task_concludes domain ending.Refused holds short stop = (domain, holds, record { short = short; not_thin = stop })
-  task_concludes domain ending.ReadFailed holds short stop = absurd stop
-  task_concludes domain ending.TooLong holds short stop = absurd stop
-  task_concludes domain ending.BadWords holds short stop = absurd stop
-  task_concludes domain ending.NotAccepted holds short stop = absurd stop
-  task_concludes domain (ending.Accepted report) holds short stop = absurd stop
-
   module _ (domain : List ℕ) (task : Task) (charges : Charges) (holds : MayHold (held q.domain) domain) (thin : IsThin domain task charges) where
     pub certificate_concludes : (e : Ending) → before ≤ mid → CertificateStops q held mid now e → Concludes q held before now e
     certificate_concludes ending.NoMemory earlier stop = tt
     certificate_concludes ending.ReadFailed earlier (inl rose) = inl (rose_since before mid now earlier rose)
-    certificate_concludes ending.ReadFailed earlier (inr missing) = inr (inr missing)
+    certificate_concludes ending.ReadFailed earlier (inr missing) = inr (inr (missing, (domain, holds, task, charges, thin)))
     certificate_concludes ending.NotAccepted earlier stop = (domain, stop.0, holds, stop.1, (task, charges, thin, λ c decoded balanced. stop.2 c decoded))
     certificate_concludes ending.TooLong earlier stop = absurd stop
     certificate_concludes ending.BadWords earlier stop = absurd stop
     certificate_concludes ending.Refused earlier stop = absurd stop
     certificate_concludes (ending.Accepted report) earlier stop = absurd stop
-
-some_injective : {A : Type 0} (x y : A) → ◌≡◌ {A = Option A} (Some x) (Some y) → x ≡ y
-some_injective x y e = cc e
 
 module _ (q : Names) (held : List ℕ → Told) (before now : ℕ) (domain : List ℕ) (task : Task) (c : Content)
     (domain_holds : MayHold (held q.domain) domain) (short : length domain ≤ most_text) (is_task : task_of domain ≡ Some task)
@@ -141,13 +115,6 @@ if_ok P Q (Err e) holds step = tt
 pub if_err : {T E : Type 0} (P Q : E → Type 0) (result : Result T E) → IfErr result P → ((e : E) → P e → Q e) → IfErr result Q
 if_err P Q (Ok x) holds step = tt
 if_err P Q (Err e) holds step = step e holds
-
--- a run that was cut short would have ended so
-pub cut_short : (words : List (List ℕ)) (held : List ℕ → Told) (before now : ℕ) (e : Ending) (old new : Option (List ℕ)) (text : List ℕ)
-    → EndsWith words held before now e → text ≡ ending_text e → PutsPrefix old new text
-    → (status : ℕ) × (whole : List ℕ) × Ends words held before now status whole × PutsPrefix old new whole
-cut_short words held before now e old new text ends is prefix =
-    (status_of e, text, record { reason = e; ended = ends; status_is = refl; text_is = is }, prefix)
 
 -- ---- certificates, by the laws of their texts
 

@@ -1,5 +1,5 @@
 -- The facts of `:init`, and the chances of thin actions.
-use Rattle.std.proofs.Common.{◌≡◌, ℕ, ◌+◌, ◌^◌, ◌<◌, ◌≤◌, Bool, true, false, ◌||◌, List, [], ◌∷◌, ◌++◌, length, get_or, take, drop, refl, sym, ap, subst, ◌∙◌, bit_or}
+use Rattle.std.proofs.Common.{◌≡◌, ℕ, ◌+◌, ◌<◌, Bool, true, false, ◌||◌, List, [], ◌∷◌, ◌++◌, length, get_or, take, drop, refl, sym, ap, subst, ◌∙◌, bit_or}
 use Rattle.std.specs.Prelude.{Contains}
 use Rattle.std.specs.List.{list_any, flat_map}
 use Rattle.std.proofs.lemmas.List.Elements.{Contains-get_or}
@@ -8,6 +8,7 @@ use Rattle.std.proofs.lemmas.List.Concat.{flat_map-append}
 use Rattle.std.proofs.lemmas.List.Folds.{list_any-append}
 use Rattle.std.proofs.lemmas.Bool.Decides.{same_from_decides}
 use Rattle.exact_fraction.specs.declared.Fraction.{Fraction}
+use Rattle.exact_fraction.specs.Numbers.{IsProbability}
 use Rattle.ppddl_model.specs.declared.tree.Atom.{Atom}
 use Rattle.ppddl_model.specs.declared.tree.Action.{Action}
 use Rattle.ppddl_model.specs.declared.tree.Term.{Term}
@@ -34,7 +35,7 @@ same_atom-names name other =
     same_from_decides (same_atom (other ∷ []) (name ∷ [])) (same_name name other)
     (λ e. let heads : other ≡ name = first_name other name (of_atoms.0 e) in sym heads, λ e. of_atoms.1 (ap (λ n. n ∷ []) (sym e))) of_names
 
-or_false : (b : Bool) → (b || false) ≡ b
+pub or_false : (b : Bool) → (b || false) ≡ b
 or_false true = refl
 or_false false = refl
 
@@ -79,17 +80,11 @@ fact_of_thin predicates i (a, is, declared) =
     let alone : a ≡ atom_of a.predicate = ap (λ (args : List Term). record { predicate = a.predicate; args = args }) declared.alone in
     (a.predicate, is ∙ ap item.Fact alone)
 
--- the chance of a thin action
-pub record IsChance (chance : Fraction) : Type 0 where
-  pub at_most_one : chance.num ≤ chance.den
-  pub den_positive : 1 ≤ chance.den
-  pub den_within : chance.den ≤ 10 ^ 9
-
-pub chance_of_thin : (a : Action) → IsThin a → (cost : ℕ) (chance : Fraction) (name : Name) → a.effect ≡ thin_effect cost chance (atom_of name) → IsChance chance
+pub chance_of_thin : (a : Action) → IsThin a → (cost : ℕ) (chance : Fraction) (name : Name) → a.effect ≡ thin_effect cost chance (atom_of name) → IsProbability chance
 chance_of_thin a (predicates, thin) cost chance name is =
     let atom : thin.atom ≡ atom_of thin.atom.predicate = ap (λ (args : List Term). record { predicate = thin.atom.predicate; args = args }) thin.declared.alone in
     let other : a.effect ≡ thin_effect thin.cost thin.chance (atom_of thin.atom.predicate) = thin.effect ∙ ap (thin_effect thin.cost thin.chance) atom in
     let both : chance ∷ [] ≡ thin.chance ∷ [] =
     sym (chances-thin cost chance name) ∙ ap chances (sym is ∙ other) ∙ chances-thin thin.cost thin.chance thin.atom.predicate in
     let same : thin.chance ≡ chance = cc in
-    subst IsChance same (record { at_most_one = thin.at_most_one; den_positive = thin.den_positive; den_within = thin.den_within })
+    subst IsProbability same thin.probability

@@ -12,12 +12,6 @@ filter_all p (x ∷ xs) each =
     ap (λ b. cond b (x ∷ filter p xs) (filter p xs)) (each x (Contains-first x xs)) ∙ ap (λ l. x ∷ l) (filter_all p xs (λ y inside. each y (Contains-later x xs y inside)))
 
 module _ {X Y : Type 0} (f : X → List Y) where
-  -- parts that are the same for each member
-  pub flat_map_same : (g : X → List Y) (xs : List X) → ((x : X) → Contains xs x → f x ≡ g x) → flat_map f xs ≡ flat_map g xs
-  flat_map_same g [] each = refl
-  flat_map_same g (x ∷ xs) each =
-      ap (λ l. l ++ flat_map f xs) (each x (Contains-first x xs)) ∙ ap (λ l. g x ++ l) (flat_map_same g xs (λ y inside. each y (Contains-later x xs y inside)))
-
   pub flat_map_nothing : (xs : List X) → ((x : X) → Contains xs x → f x ≡ []) → flat_map f xs ≡ []
   flat_map_nothing [] each = refl
   flat_map_nothing (x ∷ xs) each =
@@ -47,14 +41,6 @@ flat_map-AllZip R f g [] [] all each = refl
 flat_map-AllZip R f g [] (y ∷ ys) all each = absurd all
 flat_map-AllZip R f g (x ∷ xs) [] all each = absurd all
 flat_map-AllZip R f g (x ∷ xs) (y ∷ ys) all each = ap (λ l. l ++ flat_map f xs) (each x y all.0) ∙ ap (λ l. g y ∷ l) (flat_map-AllZip R f g xs ys all.1 each)
-
-pub Contains-map : {X Y : Type 0} (f : X → Y) (xs : List X) (x : X) → Contains xs x → Contains (map f xs) (f x)
-Contains-map f [] x inside = absurd (Contains-nil x inside)
-Contains-map f (a ∷ xs) x inside =
-    elim (Contains-cons_cases a xs x inside) [
-      | inl here ↦ subst (λ y. Contains (f a ∷ map f xs) y) (ap f here) (Contains-first (f a) (map f xs))
-      | inr later ↦ Contains-later (f a) (map f xs) (f x) (Contains-map f xs x later)
-    ]
 
 pub Contains-map_cases : {X Y : Type 0} (f : X → Y) (xs : List X) (y : Y) → Contains (map f xs) y → (x : X) × Contains xs x × (f x ≡ y)
 Contains-map_cases f [] y inside = absurd (Contains-nil y inside)

@@ -12,16 +12,13 @@ use Rattle.ppddl_model.specs.declared.tree.Task.{Task}
 use Rattle.ppddl_model.specs.State.{Name, same_name, GroundAtom, same_atom, atom_cmp_total, State, no_atoms, has, with_atom, with_atoms}
 use Rattle.ppddl_model.specs.Changing.{facts, changing_atoms, is_changing, fixed_facts}
 use Rattle.ppddl_model.proofs.States.{same_name-Decides, same_atom-Decides, has-with_atom, has-with_atoms, same_from_has}
+use Rattle.weighted.proofs.Members.{Contains-map}
 use Rattle.plan_app.specs.Values.{has_text, row_state}
 use Rattle.plan_app.specs.Bits.{bits_where}
 use Rattle.plan_app.specs.Table.{row_bits}
 use Rattle.plan_app.proofs.Bits.{bits_where-or, bits_where-and, any-bits_where, agree_from_bits, bits_from_agree, bits_where-map, same_name_turned}
-use Rattle.plan_app.proofs.Facts.{same_atom-names}
-use Rattle.plan_app.proofs.Lists.{Contains-map, Contains-map_cases}
-
-or_none : (a : Bool) → (a || false) ≡ a
-or_none true = refl
-or_none false = refl
+use Rattle.plan_app.proofs.Facts.{same_atom-names, or_false}
+use Rattle.plan_app.proofs.Lists.{Contains-map_cases}
 
 and_none : (a b : Bool) → ((a && false) || (true && b)) ≡ b
 and_none true b = refl
@@ -82,7 +79,7 @@ module _ (task : Task) where
   has-row_state r q =
       let chosen = filter (has_text r.atoms) (changing_atoms task) in
       has-with_atoms no_atoms (chosen ++ fixed_facts task) q
-      ∙ or_none (list_any (same_atom q) (chosen ++ fixed_facts task))
+      ∙ or_false (list_any (same_atom q) (chosen ++ fixed_facts task))
       ∙ list_any-append (same_atom q) chosen (fixed_facts task)
       ∙ ap (λ b. b || list_any (same_atom q) (fixed_facts task)) (any-filter_atoms (has_text r.atoms) q (changing_atoms task))
       ∙ ap (λ b. (has_text r.atoms q && is_changing task q) || b) (any-filter_atoms (λ a. not (is_changing task a)) q (facts task))
@@ -94,7 +91,7 @@ module _ (task : Task) where
   }
 
   pub has-first : (q : GroundAtom) → has (with_atoms no_atoms (facts task)) q ≡ list_any (same_atom q) (facts task)
-  has-first q = has-with_atoms no_atoms (facts task) q ∙ or_none (list_any (same_atom q) (facts task))
+  has-first q = has-with_atoms no_atoms (facts task) q ∙ or_false (list_any (same_atom q) (facts task))
 
   pub Agrees-first : Agrees (with_atoms no_atoms (facts task))
   Agrees-first = record { fixed = λ q still. has-first q }

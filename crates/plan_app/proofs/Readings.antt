@@ -43,9 +43,6 @@ elim_as_cond false x y = refl
 same_literal : (a b : Name) → (a ∷ []) ∷ [] ≡ (b ∷ []) ∷ [] → a ≡ b
 same_literal a b e = cc
 
-false_from_zero : (n : ℕ) (b : Bool) → (n == 0) ≡ b → not (n == 0) ≡ not b
-false_from_zero n b e = ap not e
-
 lower_of_row : (o : Option Row)
     → ◌≡◌ {A = ℕ} (elim (option_map {U = Bounds} (λ (r : Row). record { lower = r.lower; upper = r.upper }) o) [ None ↦ 0 | Some b ↦ b.lower ]) (elim (o) [ None ↦ 0 | Some r ↦ r.lower ])
 lower_of_row None = refl

@@ -75,7 +75,7 @@ module _ (held : List ℕ → Told) (before now : ℕ) (q : Names) (domain : Lis
   at_refused ending.Refused ends verdict refused = refl
   at_refused ending.BadWords ends verdict refused = absurd ends
   at_refused ending.ReadFailed ends verdict refused = absurd (verdict.no_read_fault refl)
-  at_refused ending.NoMemory ends verdict refused = absurd (verdict.memory refl)
+  at_refused ending.NoMemory ends verdict refused = absurd (verdict.enough_memory refl)
   at_refused ending.TooLong (d, holds, long) verdict refused =
       absurd (let there : IsTooLong domain = subst IsTooLong (told_held _ domain d told holds) long in omega (arith, there, refused.short))
   at_refused ending.NotAccepted (d, f, holds, also, (task, charges, thin, none)) verdict refused =
@@ -87,7 +87,7 @@ module _ (held : List ℕ → Told) (before now : ℕ) (q : Names) (domain : Lis
   at_too_long ending.TooLong ends verdict long = refl
   at_too_long ending.BadWords ends verdict long = absurd ends
   at_too_long ending.ReadFailed ends verdict long = absurd (verdict.no_read_fault refl)
-  at_too_long ending.NoMemory ends verdict long = absurd (verdict.memory refl)
+  at_too_long ending.NoMemory ends verdict long = absurd (verdict.enough_memory refl)
   at_too_long ending.Refused (d, holds, refused) verdict long =
       absurd (let there : IsRefused domain = subst IsRefused (told_held _ domain d told holds) refused in omega (arith, there.short, long))
   at_too_long ending.NotAccepted (d, f, holds, also, (task, charges, thin, none)) verdict long =
@@ -125,7 +125,7 @@ module _ (held : List ℕ → Told) (before now : ℕ) (q : Names) (domain : Lis
     at_accepted (ending.Accepted report) ends verdict accepted = refl
     at_accepted ending.BadWords ends verdict accepted = absurd ends
     at_accepted ending.ReadFailed ends verdict accepted = absurd (verdict.no_read_fault refl)
-    at_accepted ending.NoMemory ends verdict accepted = absurd (verdict.memory refl)
+    at_accepted ending.NoMemory ends verdict accepted = absurd (verdict.enough_memory refl)
     at_accepted ending.TooLong ends verdict (task, charges, c, thin, decoded, balanced) = absurd (not_thin_and_long domain task charges thin (too_long_at ending.TooLong ends refl))
     at_accepted ending.Refused ends verdict (task, charges, c, thin, decoded, balanced) = absurd (not_thin_and_refused domain task charges thin (refused_at ending.Refused ends refl))
     at_accepted ending.NotAccepted ends verdict accepted = absurd (not_accepted_and_rejected domain f accepted (rejected_at ending.NotAccepted ends refl))
@@ -134,7 +134,7 @@ module _ (held : List ℕ → Told) (before now : ℕ) (q : Names) (domain : Lis
     at_rejected ending.NotAccepted ends verdict rejected = refl
     at_rejected ending.BadWords ends verdict rejected = absurd ends
     at_rejected ending.ReadFailed ends verdict rejected = absurd (verdict.no_read_fault refl)
-    at_rejected ending.NoMemory ends verdict rejected = absurd (verdict.memory refl)
+    at_rejected ending.NoMemory ends verdict rejected = absurd (verdict.enough_memory refl)
     at_rejected ending.TooLong ends verdict (task, charges, thin, none) = absurd (not_thin_and_long domain task charges thin (too_long_at ending.TooLong ends refl))
     at_rejected ending.Refused ends verdict (task, charges, thin, none) = absurd (not_thin_and_refused domain task charges thin (refused_at ending.Refused ends refl))
     at_rejected (ending.Accepted report) ends verdict rejected = absurd (not_accepted_and_rejected domain f (accepted_at (ending.Accepted report) ends refl) rejected)

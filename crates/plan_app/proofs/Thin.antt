@@ -9,7 +9,9 @@ use Rattle.std.proofs.lemmas.List.Elements.{All-nil, All-cons, All-append, All-c
 use Rattle.std.proofs.lemmas.List.Folds.{flat_map-map}
 use Rattle.exact_fraction.specs.declared.Fraction.{Fraction}
 use Rattle.exact_fraction.proofs.DivisorLemmas.{IsLeastMultipleOf-common_multiple, common_multiple-pos}
+use Rattle.weighted.proofs.Means.{mean-positive}
 use Rattle.weighted.proofs.Members.{Contains-first, Contains-later, Contains-nil}
+use Rattle.exact_fraction.specs.Numbers.{IsProbability}
 use Rattle.ppddl_model.specs.declared.tree.Action.{Action}
 use Rattle.ppddl_model.specs.declared.tree.Atom.{Atom}
 use Rattle.ppddl_model.specs.declared.tree.Param.{Param}
@@ -32,8 +34,7 @@ use Rattle.ppddl_reader.specs.ThinTask.{IsThinTask}
 use Rattle.plan_app.specs.Packed.{IsThin, thin_effect, atom_of, MakesTrue}
 use Rattle.plan_app.proofs.Lists.{filter_all, flat_map_nothing, flat_map_singles, flat_map-AllZip, Contains-flat_map, All-flat_map, Contains-map_cases}
 use Rattle.plan_app.proofs.Effects.{denominators-thin, decreases-thin, draws-thin, literals-thin, holds-nothing, known-nothing}
-use Rattle.plan_app.proofs.Facts.{IsChance}
-use Rattle.plan_app.proofs.Backups.{total-positive, times_one, times_same}
+use Rattle.plan_app.proofs.Backups.{times_one, times_same}
 
 -- the one instance of an action without parameters
 abbrev pub sole_instance : Action → Instance
@@ -64,7 +65,7 @@ pub record Part (a : Action) : Type 0 where
   pub chance : Fraction
   pub name : Name
   pub effect : a.effect ≡ thin_effect cost chance (atom_of name)
-  pub is_chance : IsChance chance
+  pub probability : IsProbability chance
 
 pub part_of : (a : Action) → IsThin a → Part a
 part_of a (predicates, thin) =
@@ -74,7 +75,7 @@ part_of a (predicates, thin) =
       chance = thin.chance;
       name = thin.atom.predicate;
       effect = thin.effect ∙ ap (thin_effect thin.cost thin.chance) alone;
-      is_chance = record { at_most_one = thin.at_most_one; den_positive = thin.den_positive; den_within = thin.den_within };
+      probability = thin.probability;
     }
 
 module _ (task : Task) (thin : IsThinTask task) where
@@ -132,7 +133,7 @@ module _ (task : Task) (thin : IsThinTask task) where
   den_positive = All-append (λ d. 0 < d) of_actions of_init
       (All-flat_map (λ (a : Action). denominators a.effect) (λ d. 0 < d) task.domain.actions (λ a inside.
       let p = part a inside in
-      subst (All (λ d. 0 < d)) (sym (ap denominators p.effect ∙ denominators-thin p.cost p.chance p.name)) (All-cons (λ d. 0 < d) p.chance.den [] p.is_chance.den_positive (All-nil (λ d. 0 < d)))))
+      subst (All (λ d. 0 < d)) (sym (ap denominators p.effect ∙ denominators-thin p.cost p.chance p.name)) (All-cons (λ d. 0 < d) p.chance.den [] p.probability.den_positive (All-nil (λ d. 0 < d)))))
       (All-flat_map item_denominators (λ d. 0 < d) task.problem.init (λ i inside. subst (All (λ d. 0 < d)) (sym (ap item_denominators (thin.init i inside).1)) (All-nil (λ d. 0 < d))))
 
   whole_positive : 0 < common_denominator task
@@ -207,7 +208,7 @@ module _ (task : Task) (thin : IsThinTask task) where
       let same : found.0.adds ≡ with_atoms no_atoms (facts task) =
       same_from_has found.0.adds (with_atoms no_atoms (facts task)) (λ q. found.2.adds q ∙ or_nothing (list_any (same_atom q) (facts task)) ∙ sym (has-with_atoms no_atoms (facts task) q)) in
       let value : found.0.weight * f found.0.adds ≡ 1 * f (with_atoms no_atoms (facts task)) = times_same found.0.weight 1 (f found.0.adds) (f (with_atoms no_atoms (facts task))) found.2.weight (ap f same) in
-      total-positive (λ (start : Start State). start.weight) (λ start. f start.state)
+      mean-positive (λ (start : Start State). start.weight) (λ start. start) (λ start. f start.state)
       (map (λ (x : Entry). record { weight = x.weight; state = x.adds }) (products_of (map (item_outcomes (common_denominator task)) task.problem.init)))
       ∙ ap (λ l. at_starts f (map (λ (x : Entry). record { weight = x.weight; state = x.adds }) l)) found.1
       ∙ omega (arith, value)

@@ -3,7 +3,7 @@ use Rattle.std.proofs.Common.{◌≡◌, ℕ, ◌+◌, ◌-◌, Bool, true, fals
 use Rattle.std.specs.Prelude.{Contains}
 use Rattle.std.specs.List.{list_any, list_all}
 use Rattle.std.proofs.Math.Nat.{div-one}
-use Rattle.weighted.proofs.Members.{Contains-first, Contains-later, Contains-cons_cases, Contains-nil}
+use Rattle.weighted.proofs.Members.{Contains-first, Contains-later, Contains-cons_cases, Contains-nil, Contains-map}
 use Rattle.decision_process.specs.Enclosing.{at_starts}
 use Rattle.decision_process.specs.Rounded.{floor, ceiling}
 use Rattle.certificate.specs.declared.model.Row.{Row}
@@ -22,7 +22,7 @@ use Rattle.plan_app.specs.Balanced.{AreDistinct, row_states, IsBalancedFor}
 use Rattle.plan_app.specs.Bits.{is_atom_of, is_known}
 use Rattle.plan_app.specs.Packed.{Packs}
 use Rattle.plan_app.specs.Table.{row_bits, AreRows, IsTable, lower_at, upper_at, AreBalanced, IsStartInterval, IsBalancedBy}
-use Rattle.plan_app.proofs.Lists.{Contains-map, Contains-map_cases}
+use Rattle.plan_app.proofs.Lists.{Contains-map_cases}
 use Rattle.plan_app.proofs.Thin.{at_starts-thin, start_den-thin}
 use Rattle.plan_app.proofs.Packing.{state_bits, Agrees-row_state, Agrees-first, same_states, state_bits-row_state, state_bits-first}
 use Rattle.plan_app.proofs.Readings.{charges, changing_names, low-packed, high-packed}

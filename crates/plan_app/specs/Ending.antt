@@ -1,4 +1,5 @@
 -- How a run ends: its status and the text that it puts.
+--     IsMissing held q                          a name that is read is not held; the certificate's is read behind a thin text alone
 --     Reports q held report                     the shelf holds a thin text and a balanced certificate of it, and this is the report
 --     Concludes q held before now ending        the request may end so; before and now are the shelf's counts of failed reads
 --     EndsWith words held before now ending     the run with these words may end so
@@ -7,7 +8,7 @@
 --     IsAnswer status                           the status is 0, 6, 7 or 8, or 5
 --     IsTold words held q domain f              the words ask for q, and the shelf tells these bytes of its names
 --     Reported .. new c                         c is the certificate that was accepted, and its report was put
---     OnlyRead ..                               what a shelf holds stays, no count falls, and no write was made
+--     OnlyRead ..                               what a shelf holds stays, no count falls, and no count of write faults rose
 -- Where a shelf doesn't tell what it holds, "the shelf holds" is read as "it may hold".
 use Rattle.std.specs.Prelude.{◌≡◌, ◌≢◌, ◌≤◌, ◌⊎◌, ℕ, List, [], ◌∷◌, Option, Some, None, Contains}
 use Rattle.std.specs.Io.KnownBytes.{append_known}
@@ -29,8 +30,12 @@ use Rattle.plan_app.specs.Verdict.{IsTooLong, IsRefused, IsThin, IsDecoded, IsRe
 
 -- ---- what stops the parts of `check`
 
+-- the bytes held are a thin text, or may be
+abbrev pub MayHoldThin : Told → Type 0
+MayHoldThin told = (domain : List ℕ) × MayHold told domain × (task : Task) × (charges : Charges) × IsThin domain task charges
+
 abbrev pub IsMissing : (List ℕ → Told) → Names → Type 0
-IsMissing held q = (held q.domain ≡ Missing) ⊎ (held q.certificate ≡ Missing)
+IsMissing held q = (held q.domain ≡ Missing) ⊎ ((held q.certificate ≡ Missing) × MayHoldThin (held q.domain))
 
 -- the planning text was not read
 abbrev pub TextStops : Names → (List ℕ → Told) → ℕ → ℕ → Ending → Type 0
@@ -142,12 +147,12 @@ pub record Ends (words : List (List ℕ)) (held : List ℕ → Told) (before now
 pub record HasVerdict (status : ℕ) : Type 0 where
   pub no_read_fault : status ≢ 3
   pub no_write_fault : status ≢ 4
-  pub memory : status ≢ 5
+  pub enough_memory : status ≢ 5
 
 pub record OnlyRead (held held' : List ℕ → Told) (before now writes writes' : ℕ) : Type 0 where
   pub held_same : held' ≡ held
   pub later : before ≤ now
-  pub no_write : writes' ≡ writes
+  pub no_write_fault : writes' ≡ writes
 
 abbrev pub IsAnswer : ℕ → Type 0
 IsAnswer status = Contains (0 ∷ 5 ∷ 6 ∷ 7 ∷ 8 ∷ []) status

@@ -1,5 +1,5 @@
 -- Worked examples, which compute: requests, and what the rows of a certificate of the coin say.
-use Rattle.std.specs.Prelude.{◌≡◌, List, [], ◌∷◌, Some, None, codes}
+use Rattle.std.specs.Prelude.{◌≡◌, [], ◌∷◌, Some, None, codes}
 use Rattle.std.proofs.Common.{refl}
 use Rattle.certificate.specs.declared.model.Row.{Row}
 use Rattle.certificate.specs.declared.model.Act.TheVariants.{Goal, Do}

@@ -5,7 +5,7 @@
 --     instance_named task name   the first instance with this text, if any
 --     low task rows s            the row's lower value, 0 without a row
 --     high task charges rows s   0 at a goal, else the row's upper value, the penalty without a row
---     act task rows s            the instance that the row's act names; None where it gives up or there is no row
+--     act task rows s            the instance that the row's act names; None where it names none or there is no row
 use Rattle.std.specs.Prelude.{ℕ, Bool, true, false, cond, List, [], ◌∷◌, ◌++◌, map, filter, Option, Some, None}
 use Rattle.std.specs.List.{list_any}
 use Rattle.certificate.specs.declared.model.Act.{Act}

@@ -5,7 +5,7 @@
 --     IsDecoded f c               f is the text of the certificate c, within 67,108,864 bytes
 --     IsAccepted domain f         the text is thin, and f is the text of a balanced certificate for its task
 --     IsRejected domain f         the text is thin, and f is no such text
--- A thin text has a goal reward, which is the penalty. There is no step cost.
+--     charged_by task             the charges of `check`: the goal reward is the penalty, and there is no step cost
 use Rattle.std.specs.Prelude.{◌≡◌, ℕ, ◌<◌, ◌≤◌, List, length, Option, Some, None}
 use Rattle.certificate.specs.Content.{Content, IsTextOf, most_bytes}
 use Rattle.ppddl_model.specs.declared.tree.Task.{Task}

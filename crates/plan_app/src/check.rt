@@ -126,12 +126,9 @@ fn judged(alloc: Global, task: &Task, certificate: &Certificate) -> Result<Bytes
     ensures stop { IfErr result (JudgeStops task.now certificate.now) }
 {
     let penalty = task.problem.goal_reward.unwrap_or(0);
-    match is_balanced(alloc, task, penalty, certificate) {
-        Ok(true) => match check_report(alloc, certificate) {
-            Ok(report) => Ok(report),
-            Err(_) => Err(Ending::NoMemory),
-        },
-        Ok(false) => Err(Ending::NotAccepted),
-        Err(_) => Err(Ending::NoMemory),
+    if !is_balanced(alloc, task, penalty, certificate)? {
+        return Err(Ending::NotAccepted);
     }
+    let report = check_report(alloc, certificate)?;
+    Ok(report)
 }

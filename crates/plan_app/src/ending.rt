@@ -4,6 +4,7 @@ ghost use Rattle.std.specs.Prelude.{◌≡◌};
 ghost use Rattle.plan_app.specs.Ending.{status_of, ending_text};
 
 use plain_list::Bytes;
+use std::alloc::AllocError;
 
 /// What a run has to say when it ends.
 #[derive(Drop, Debug)]
@@ -22,6 +23,16 @@ pub enum Ending {
     NotAccepted,
     /// They are one; with the report.
     Accepted(Bytes),
+}
+
+impl From<AllocError> for Ending {
+    ghost use Rattle.plan_app.specs.declared.ending.Ending.TheVariants.{NoMemory};
+
+    ghost from_gives = { λ _ ending. ending ≡ NoMemory };
+
+    fn from(_error: AllocError) -> Self {
+        Ending::NoMemory
+    }
 }
 
 impl Ending {

@@ -4,6 +4,7 @@ ghost use Rattle.std.specs.Prelude.{◌≡◌, ◌++◌, IfOk, OnOk, decimal};
 ghost use Rattle.plan_app.specs.Texts.{digit, units, accepted_text};
 
 use certificate::Certificate;
+use itoa::Buffer;
 use plain_list::Bytes;
 use std::alloc::{AllocError, Global};
 
@@ -13,20 +14,20 @@ pub fn check_report(alloc: Global, certificate: &Certificate) -> Result<Bytes, A
 {
     let mut text = Vec::new(alloc);
     text.extend_from_slice(b"accepted\ninterval ")?;
-    push_units(alloc, &mut text, certificate.lower())?;
+    push_units(&mut text, certificate.lower())?;
     text.push(b' ')?;
-    push_units(alloc, &mut text, certificate.upper())?;
+    push_units(&mut text, certificate.upper())?;
     text.extend_from_slice(b"\nstates ")?;
-    push_decimal(alloc, &mut text, certificate.rows().len() as u64)?;
+    push_decimal(&mut text, certificate.rows().len() as u64)?;
     text.push(b'\n')?;
     Ok(Bytes::from_vec(text))
 }
 
 /// Micro-units as units with six decimals.
-fn push_units(alloc: Global, text: &mut Vec<u8>, value: u64) -> Result<(), AllocError>
+fn push_units(text: &mut Vec<u8>, value: u64) -> Result<(), AllocError>
     ensures { OnOk result (text.new.items ≡ text.old.items ++ units value) }
 {
-    push_decimal(alloc, text, value / 1_000_000)?;
+    push_decimal(text, value / 1_000_000)?;
     text.push(b'.')?;
     let rest = value % 1_000_000;
     text.push(digit(rest / 100_000))?;
@@ -46,9 +47,9 @@ fn digit(number: u64) -> u8
 }
 
 /// A number in decimal without leading zeros.
-fn push_decimal(alloc: Global, text: &mut Vec<u8>, number: u64) -> Result<(), AllocError>
+fn push_decimal(text: &mut Vec<u8>, number: u64) -> Result<(), AllocError>
     ensures { OnOk result (text.new.items ≡ text.old.items ++ decimal number) }
 {
-    let digits = format!(in alloc; "{number}")?;
-    text.extend_from_slice(digits.as_bytes())
+    let mut buffer = Buffer::new();
+    text.extend_from_slice(buffer.format(number).as_bytes())
 }

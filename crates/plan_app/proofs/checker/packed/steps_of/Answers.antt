@@ -1,9 +1,10 @@
 use Rattle.std.proofs.Common.{sym, ap, subst, ◌∙◌, arith}
 use Rattle.std.proofs.lemmas.List.Elements.{Contains-get_or}
+use Rattle.exact_fraction.specs.Numbers.{IsProbability}
 use Rattle.ppddl_model.specs.State.{same_name}
 use Rattle.plan_app.specs.Bits.{bits_where}
 use Rattle.plan_app.specs.Packed.{IsThin, IsStepOf}
-use Rattle.plan_app.proofs.Facts.{IsChance, chance_of_thin}
+use Rattle.plan_app.proofs.Facts.{chance_of_thin}
 use Rattle.plan_app.proofs.Zips.{AllZip-more}
 use Rattle.plan_app.proofs.checker.packed.steps_of.Goals as goal
 
@@ -12,8 +13,8 @@ invariant_of-push c =
     let actions = c.args.actions.now in
     let action = c.action-item.result in
     let thin : IsThin action = subst IsThin (sym c.action-item.is) (c.requires.thin _ (Contains-get_or actions c.loop-action.action-index action (omega arith))) in
-    let chance : IsChance c.parts_of-cost.result.1 = chance_of_thin action thin c.parts_of-cost.result.0 c.parts_of-cost.result.1 c.parts_of-cost.result.2.now c.parts_of-cost.ensures in
-    record { at_most_one = chance.at_most_one; den_within = chance.den_within }
+    let chance : IsProbability c.parts_of-cost.result.1 = chance_of_thin action thin c.parts_of-cost.result.0 c.parts_of-cost.result.1 c.parts_of-cost.result.2.now c.parts_of-cost.ensures in
+    record { at_most_one = chance.at_most_one; den_within = chance.den_bounded }
 
 pub loop-action-preserved : goal.loop-action-preserved
 loop-action-preserved c =
