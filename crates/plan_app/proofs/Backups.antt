@@ -11,7 +11,7 @@ use Rattle.ppddl_model.specs.Outcomes.{outcomes}
 use Rattle.ppddl_model.specs.Steps.{Instance, Charges, world, base_cost, outcome_of, step}
 use Rattle.ppddl_model.proofs.States.{without-no_atoms}
 use Rattle.plan_app.specs.Packed.{thin_effect, atom_of}
-use Rattle.plan_app.proofs.Effects.{lucky, unlucky, outcomes-thin, draws-thin}
+use Rattle.plan_app.proofs.Effects.{entry_with, entry_without, outcomes-thin, draws-thin}
 
 pub times_one : (n : ℕ) → n * 1 ≡ n
 times_one n = omega arith
@@ -32,48 +32,48 @@ pub times_same : (a b c d : ℕ) → a ≡ b → c ≡ d → a * c ≡ b * d
 times_same a b c d e f = ap (λ n. n * c) e ∙ ap (λ n. b * n) f
 
 -- two outcomes whose scales are 1
-two_outcomes : (share zeroth first whole scale cost base lucky_value unlucky_value with_value same_value : ℕ) → zeroth ≡ 1 → first ≡ whole → scale ≡ 1 → base ≡ 0
-    → lucky_value ≡ with_value → unlucky_value ≡ same_value
-    → 1 * (share * zeroth * 1) * scale * (0 + cost + 0 + base + lucky_value) + (1 * (first - (share * zeroth * 1 + 0)) * scale * (0 + cost + 0 + base + unlucky_value) + 0)
+two_outcomes : (share zeroth first whole scale cost base entry_with_value entry_without_value with_value same_value : ℕ) → zeroth ≡ 1 → first ≡ whole → scale ≡ 1 → base ≡ 0
+    → entry_with_value ≡ with_value → entry_without_value ≡ same_value
+    → 1 * (share * zeroth * 1) * scale * (0 + cost + 0 + base + entry_with_value) + (1 * (first - (share * zeroth * 1 + 0)) * scale * (0 + cost + 0 + base + entry_without_value) + 0)
     ≡ share * (cost + with_value) + (whole - share) * (cost + same_value)
-two_outcomes share zeroth first whole scale cost base lucky_value unlucky_value with_value same_value one all unscaled free lucky_same unlucky_same =
+two_outcomes share zeroth first whole scale cost base entry_with_value entry_without_value with_value same_value one all unscaled free entry_with_same entry_without_same =
     let weight : share * zeroth ≡ share = ap (λ n. share * n) one ∙ times_one share in
-    let lucky_weight : 1 * (share * zeroth * 1) * scale ≡ share = ap (λ n. 1 * (share * zeroth * 1) * n) unscaled ∙ omega (arith, weight) in
-    let unlucky_weight : 1 * (first - (share * zeroth * 1 + 0)) * scale ≡ whole - share = ap (λ n. 1 * (first - (share * zeroth * 1 + 0)) * n) unscaled ∙ omega (arith, weight, all) in
-    let left = times_same (1 * (share * zeroth * 1) * scale) share (0 + cost + 0 + base + lucky_value) (cost + with_value) lucky_weight (omega (arith, free, lucky_same)) in
-    let right = times_same (1 * (first - (share * zeroth * 1 + 0)) * scale) (whole - share) (0 + cost + 0 + base + unlucky_value) (cost + same_value) unlucky_weight (omega (arith, free, unlucky_same)) in
+    let entry_with_weight : 1 * (share * zeroth * 1) * scale ≡ share = ap (λ n. 1 * (share * zeroth * 1) * n) unscaled ∙ omega (arith, weight) in
+    let entry_without_weight : 1 * (first - (share * zeroth * 1 + 0)) * scale ≡ whole - share = ap (λ n. 1 * (first - (share * zeroth * 1 + 0)) * n) unscaled ∙ omega (arith, weight, all) in
+    let left = times_same (1 * (share * zeroth * 1) * scale) share (0 + cost + 0 + base + entry_with_value) (cost + with_value) entry_with_weight (omega (arith, free, entry_with_same)) in
+    let right = times_same (1 * (first - (share * zeroth * 1 + 0)) * scale) (whole - share) (0 + cost + 0 + base + entry_without_value) (cost + same_value) entry_without_weight (omega (arith, free, entry_without_same)) in
     omega (arith, left, right)
 
 -- a chance between two values, over a multiple of its denominator and over its own
 abbrev pub over_whole : Fraction → ℕ → ℕ → ℕ → ℕ → ℕ
-over_whole chance scale whole lucky_value unlucky_value = chance.num * scale * lucky_value + (whole - chance.num * scale) * unlucky_value
+over_whole chance scale whole entry_with_value entry_without_value = chance.num * scale * entry_with_value + (whole - chance.num * scale) * entry_without_value
 
 abbrev pub over_own : Fraction → ℕ → ℕ → ℕ
-over_own chance lucky_value unlucky_value = chance.num * lucky_value + (chance.den - chance.num) * unlucky_value
+over_own chance entry_with_value entry_without_value = chance.num * entry_with_value + (chance.den - chance.num) * entry_without_value
 
-module _ (chance : Fraction) (scale whole : ℕ) (some : 0 < scale) (multiple : whole ≡ scale * chance.den) (value lucky_value unlucky_value : ℕ) where
+module _ (chance : Fraction) (scale whole : ℕ) (some : 0 < scale) (multiple : whole ≡ scale * chance.den) (value entry_with_value entry_without_value : ℕ) where
   abbrev own : ℕ
-  own = over_own chance lucky_value unlucky_value
+  own = over_own chance entry_with_value entry_without_value
 
-  over_whole-scaled : over_whole chance scale whole lucky_value unlucky_value ≡ scale * own
+  over_whole-scaled : over_whole chance scale whole entry_with_value entry_without_value ≡ scale * own
   over_whole-scaled =
       let rest : whole - chance.num * scale ≡ scale * (chance.den - chance.num) =
       ap (λ n. n - chance.num * scale) multiple ∙ turned_within (scale * chance.den) chance.num scale ∙ sym (mul-sub scale chance.den chance.num) in
-      ap (λ n. chance.num * scale * lucky_value + n * unlucky_value) rest ∙ regrouped chance.num scale lucky_value (chance.den - chance.num) unlucky_value
+      ap (λ n. chance.num * scale * entry_with_value + n * entry_without_value) rest ∙ regrouped chance.num scale entry_with_value (chance.den - chance.num) entry_without_value
 
   value-scaled : value * whole ≡ scale * (value * chance.den)
   value-scaled = ap (λ n. value * n) multiple ∙ moved value scale chance.den
 
-  pub below_own : value * whole ≤ over_whole chance scale whole lucky_value unlucky_value → value * chance.den ≤ own
+  pub below_own : value * whole ≤ over_whole chance scale whole entry_with_value entry_without_value → value * chance.den ≤ own
   below_own h = le_of_mul-le-mul_left {m = value * chance.den} {n = own} {k = scale} (omega (arith, h, over_whole-scaled, value-scaled)) some
 
-  pub below_whole : value * chance.den ≤ own → value * whole ≤ over_whole chance scale whole lucky_value unlucky_value
+  pub below_whole : value * chance.den ≤ own → value * whole ≤ over_whole chance scale whole entry_with_value entry_without_value
   below_whole h = let scaled : scale * (value * chance.den) ≤ scale * own = mul-le-mul_left scale h in omega (arith, scaled, over_whole-scaled, value-scaled)
 
-  pub above_own : over_whole chance scale whole lucky_value unlucky_value ≤ value * whole → own ≤ value * chance.den
+  pub above_own : over_whole chance scale whole entry_with_value entry_without_value ≤ value * whole → own ≤ value * chance.den
   above_own h = le_of_mul-le-mul_left {m = own} {n = value * chance.den} {k = scale} (omega (arith, h, over_whole-scaled, value-scaled)) some
 
-  pub above_whole : own ≤ value * chance.den → over_whole chance scale whole lucky_value unlucky_value ≤ value * whole
+  pub above_whole : own ≤ value * chance.den → over_whole chance scale whole entry_with_value entry_without_value ≤ value * whole
   above_whole h = let scaled : scale * own ≤ scale * (value * chance.den) = mul-le-mul_left scale h in omega (arith, scaled, over_whole-scaled, value-scaled)
 
 module _ (task : Task) (charges : Charges) (i : Instance) (cost : ℕ) (chance : Fraction) (name : Name) (is : i.action.effect ≡ thin_effect cost chance (atom_of name))
@@ -84,7 +84,7 @@ module _ (task : Task) (charges : Charges) (i : Instance) (cost : ℕ) (chance :
   abbrev share : ℕ
   share = chance.num * (whole / chance.den)
 
-  both : (s : State) → outcomes (world task) whole i.action.effect i.binding s ≡ lucky cost chance name whole ∷ unlucky cost chance name whole ∷ []
+  both : (s : State) → outcomes (world task) whole i.action.effect i.binding s ≡ entry_with cost chance name whole ∷ entry_without cost chance name whole ∷ []
   both s = ap (λ e. outcomes (world task) whole e i.binding s) is ∙ outcomes-thin cost chance name (world task) whole i.binding s
 
   unscaled : whole ^ (most_draws (world task) task.domain.actions - draws (world task) i.action.effect) ≡ 1

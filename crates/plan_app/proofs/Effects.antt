@@ -40,11 +40,11 @@ module _ (cost : ℕ) (chance : Fraction) (name : Name) where
   priced = joined (nothing 1) (record { weight = 1; adds = no_atoms; deletes = no_atoms; cost = cost })
 
   -- the atom becomes true, or nothing changes
-  abbrev pub lucky : ℕ → Entry
-  lucky den = joined priced (weighed (chance.num * (den / chance.den) * den ^ 0) (record { weight = 1; adds = with_atom no_atoms (name ∷ []); deletes = no_atoms; cost = 0 }))
+  abbrev pub entry_with : ℕ → Entry
+  entry_with den = joined priced (weighed (chance.num * (den / chance.den) * den ^ 0) (record { weight = 1; adds = with_atom no_atoms (name ∷ []); deletes = no_atoms; cost = 0 }))
 
-  abbrev pub unlucky : ℕ → Entry
-  unlucky den = joined priced (nothing (den ^ 1 - (chance.num * (den / chance.den) * den ^ 0 * 1 + 0)))
+  abbrev pub entry_without : ℕ → Entry
+  entry_without den = joined priced (nothing (den ^ 1 - (chance.num * (den / chance.den) * den ^ 0 * 1 + 0)))
 
   pub chances-thin : chances (thin_effect cost chance (atom_of name)) ≡ chance ∷ []
   unfolding shape-the_row-Effect-0 hidden-the_row-Effect-0 shape-the_row-Branch-2 hidden-the_row-Branch-2 hidden
@@ -67,7 +67,7 @@ module _ (cost : ℕ) (chance : Fraction) (name : Name) where
     unfolding shape-the_row-Effect-0 hidden-the_row-Effect-0 shape-the_row-Branch-2 hidden-the_row-Branch-2 hidden
     literals-thin b = refl
 
-    pub outcomes-thin : (den : ℕ) (b : Binding) (s : State) → outcomes w den (thin_effect cost chance (atom_of name)) b s ≡ lucky den ∷ unlucky den ∷ []
+    pub outcomes-thin : (den : ℕ) (b : Binding) (s : State) → outcomes w den (thin_effect cost chance (atom_of name)) b s ≡ entry_with den ∷ entry_without den ∷ []
     unfolding shape-the_row-Effect-0 hidden-the_row-Effect-0 shape-the_row-Branch-2 hidden-the_row-Branch-2 hidden
     outcomes-thin den b s = refl
 

@@ -11,7 +11,6 @@ pub mod Packing
 pub mod Readings
 pub mod Checked
 pub mod Verdict
-pub mod Coin
 pub mod Endings
 pub mod Enclosed
 pub mod Statuses

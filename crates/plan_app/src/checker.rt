@@ -47,6 +47,3 @@ fn is_balanced_by(packed: &Packed, table: &Table, penalty: u64, certificate: &Ce
         && are_balanced(packed, table, penalty, certificate.rows())
         && is_interval(packed, table, penalty, certificate)
 }
-
-#[cfg(test)]
-mod tests;

@@ -23,32 +23,7 @@ const COIN: &[u8] = b"(define (domain coin)
 const BALANCED: &[u8] =
     b"cert 1\npenalty 10000000\ninterval 2000000 2000000\nstates 1\n2000000 2000000 (flip) :\nend\n";
 
-const LOWER_TOO_HIGH: &[u8] =
-    b"cert 1\npenalty 10000000\ninterval 2000000 2000000\nstates 1\n2000001 2000000 (flip) :\nend\n";
-
-const UPPER_TOO_LOW: &[u8] =
-    b"cert 1\npenalty 10000000\ninterval 2000000 2000000\nstates 1\n2000000 1999999 (flip) :\nend\n";
-
-const OTHER_PENALTY: &[u8] =
-    b"cert 1\npenalty 9000000\ninterval 2000000 2000000\nstates 1\n2000000 2000000 (flip) :\nend\n";
-
-const OTHER_ACT: &[u8] =
-    b"cert 1\npenalty 10000000\ninterval 2000000 2000000\nstates 1\n2000000 2000000 (hop) :\nend\n";
-
-const OTHER_INTERVAL: &[u8] =
-    b"cert 1\npenalty 10000000\ninterval 1999999 2000000\nstates 1\n2000000 2000000 (flip) :\nend\n";
-
-const UNKNOWN_ATOM: &[u8] =
-    b"cert 1\npenalty 10000000\ninterval 2000000 2000000\nstates 1\n2000000 2000000 (flip) : (foo)\nend\n";
-
-const NO_ROWS: &[u8] = b"cert 1\npenalty 10000000\ninterval 0 10000000\nstates 0\nend\n";
-
-const SOLVED: &[u8] =
-    b"cert 1\npenalty 10000000\ninterval 1999999 2000001\nstates 1\n1999999 2000001 (flip) :\nend\n";
-
 const ACCEPTED: &[u8] = b"accepted\ninterval 2.000000 2.000000\nstates 1\n";
-
-const NOT_ACCEPTED: &[u8] = b"not accepted 0 0\n";
 
 /// The files of a run that accepts.
 const HELD: [(&str, &[u8]); 2] = [("coin", COIN), ("c", BALANCED)];
@@ -84,32 +59,77 @@ fn check_run<R: Threads + Sync + Abort>(
     Ok(())
 }
 
-/// Certificates of the coin, with the status and the text of their runs.
+/// Certificates of the coin that are accepted, each with its report: the values themselves, with a row for the
+/// goal; values that are close, and far; giving up; no rows.
 #[test]
-fn certificates_of_the_coin(rt: HostRuntime) -> Result<(), Fail> {
-    let rows: [(&[u8], u8, &[u8]); 10] = [
-        (BALANCED, 0, ACCEPTED),
+fn certificates_that_are_accepted(rt: HostRuntime) -> Result<(), Fail> {
+    let rows: [(&[u8], &[u8]); 5] = [
         (
-            NO_ROWS,
-            0,
-            b"accepted\ninterval 0.000000 10.000000\nstates 0\n",
+            b"cert 1\npenalty 10000000\ninterval 2000000 2000000\nstates 2\n2000000 2000000 (flip) :\n0 0 goal : (done)\nend\n",
+            b"accepted\ninterval 2.000000 2.000000\nstates 2\n",
         ),
         (
-            SOLVED,
-            0,
+            b"cert 1\npenalty 10000000\ninterval 1999999 2000001\nstates 1\n1999999 2000001 (flip) :\nend\n",
             b"accepted\ninterval 1.999999 2.000001\nstates 1\n",
         ),
-        (LOWER_TOO_HIGH, 7, NOT_ACCEPTED),
-        (UPPER_TOO_LOW, 7, NOT_ACCEPTED),
-        (OTHER_PENALTY, 7, NOT_ACCEPTED),
-        (OTHER_ACT, 7, NOT_ACCEPTED),
-        (OTHER_INTERVAL, 7, NOT_ACCEPTED),
-        (UNKNOWN_ATOM, 7, NOT_ACCEPTED),
-        (b"", 7, NOT_ACCEPTED),
+        (
+            b"cert 1\npenalty 10000000\ninterval 0 9000000\nstates 1\n0 9000000 (flip) :\nend\n",
+            b"accepted\ninterval 0.000000 9.000000\nstates 1\n",
+        ),
+        (
+            b"cert 1\npenalty 10000000\ninterval 2000000 10000000\nstates 1\n2000000 10000000 give-up :\nend\n",
+            b"accepted\ninterval 2.000000 10.000000\nstates 1\n",
+        ),
+        (
+            b"cert 1\npenalty 10000000\ninterval 0 10000000\nstates 0\nend\n",
+            b"accepted\ninterval 0.000000 10.000000\nstates 0\n",
+        ),
     ];
-    for (certificate, status, text) in rows {
+    for (certificate, report) in rows {
         let files = [("coin", COIN), ("c", certificate)];
-        check_run(&rt, rt.alloc(), &CHECK, &files, (0, 0), (status, text))?;
+        check_run(&rt, rt.alloc(), &CHECK, &files, (0, 0), (0, report))?;
+    }
+    Ok(())
+}
+
+#[test]
+fn certificates_that_are_not(rt: HostRuntime) -> Result<(), Fail> {
+    let rows: [&[u8]; 15] = [
+        // A lower value that is too high.
+        b"cert 1\npenalty 10000000\ninterval 2000000 2000000\nstates 1\n2000001 2000000 (flip) :\nend\n",
+        // The same, with its interval.
+        b"cert 1\npenalty 10000000\ninterval 2000001 2000001\nstates 1\n2000001 2000001 (flip) :\nend\n",
+        // An upper value that is too low.
+        b"cert 1\npenalty 10000000\ninterval 2000000 2000000\nstates 1\n2000000 1999999 (flip) :\nend\n",
+        // The same, with its interval.
+        b"cert 1\npenalty 10000000\ninterval 1999999 1999999\nstates 1\n1999999 1999999 (flip) :\nend\n",
+        // Giving up too cheaply.
+        b"cert 1\npenalty 10000000\ninterval 2000000 9999999\nstates 1\n2000000 9999999 give-up :\nend\n",
+        // Another penalty.
+        b"cert 1\npenalty 9000000\ninterval 2000000 2000000\nstates 1\n2000000 2000000 (flip) :\nend\n",
+        // An act that is none.
+        b"cert 1\npenalty 10000000\ninterval 2000000 2000000\nstates 1\n2000000 2000000 (hop) :\nend\n",
+        // A goal where there is none.
+        b"cert 1\npenalty 10000000\ninterval 2000000 2000000\nstates 1\n2000000 2000000 goal :\nend\n",
+        // A goal with a lower value.
+        b"cert 1\npenalty 10000000\ninterval 2000000 2000000\nstates 2\n2000000 2000000 (flip) :\n1 0 goal : (done)\nend\n",
+        // A goal with an upper value.
+        b"cert 1\npenalty 10000000\ninterval 2000000 2000000\nstates 2\n2000000 2000000 (flip) :\n0 1 goal : (done)\nend\n",
+        // A goal with another act.
+        b"cert 1\npenalty 10000000\ninterval 2000000 2000000\nstates 2\n2000000 2000000 (flip) :\n0 0 give-up : (done)\nend\n",
+        // An atom that is none.
+        b"cert 1\npenalty 10000000\ninterval 2000000 2000000\nstates 1\n2000000 2000000 (flip) : (lost)\nend\n",
+        // An interval from lower down.
+        b"cert 1\npenalty 10000000\ninterval 1999999 2000000\nstates 1\n2000000 2000000 (flip) :\nend\n",
+        // An interval to higher up.
+        b"cert 1\npenalty 10000000\ninterval 2000000 2000001\nstates 1\n2000000 2000000 (flip) :\nend\n",
+        // No text of a certificate.
+        b"",
+    ];
+    for certificate in rows {
+        let files = [("coin", COIN), ("c", certificate)];
+        let wanted = (7, b"not accepted 0 0\n".as_slice());
+        check_run(&rt, rt.alloc(), &CHECK, &files, (0, 0), wanted)?;
     }
     Ok(())
 }

@@ -73,12 +73,7 @@ fn read_predicates(
 fn has_action(actions: &[Action], name: &[u8]) -> bool
     ensures { result ≡ has_action actions.now name.now }
 {
-    for action in actions {
-        if action.name.as_slice() == name {
-            return true;
-        }
-    }
-    false
+    actions.iter().any(|action| action.name.as_slice() == name)
 }
 
 /// The action with this name and effect, which is always applicable.

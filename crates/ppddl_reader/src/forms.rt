@@ -18,12 +18,9 @@ const MOST_COST: u64 = 1_000_000_000_000;
 pub(crate) fn declares(predicates: &[PredicateDecl], name: &[u8]) -> bool
     ensures { result ≡ declares predicates.now name.now }
 {
-    for predicate in predicates {
-        if predicate.name.as_slice() == name {
-            return true;
-        }
-    }
-    false
+    predicates
+        .iter()
+        .any(|predicate| predicate.name.as_slice() == name)
 }
 
 /// The atom of the predicate with this name, which has to be declared.

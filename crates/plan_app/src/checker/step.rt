@@ -24,8 +24,9 @@ impl Step {
         ensures { result ≡ backup self.now here next }
     {
         let cost = u128::from(self.cost);
-        let lucky = u128::from(self.chance.num) * (cost + u128::from(next));
-        let unlucky = u128::from(self.chance.den - self.chance.num) * (cost + u128::from(here));
-        lucky + unlucky
+        let with_atom = u128::from(self.chance.num) * (cost + u128::from(next));
+        let without_atom = u128::from(self.chance.den - self.chance.num)
+            * (cost + u128::from(here));
+        with_atom + without_atom
     }
 }
