@@ -1,6 +1,6 @@
 //! An upper value and the code of the action that supports it, in one word.
 
-ghost use Rattle.std.specs.Prelude.{◌≡◌, ◌*◌, ◌^◌, ◌≤◌};
+ghost use Rattle.std.specs.Prelude.{◌≡◌, ◌*◌, ◌^◌, ◌≤◌, nat_lt};
 ghost use Rattle.fixed_round.specs.Words.{
   word_of,
   value_of,
@@ -55,6 +55,13 @@ impl UpperWord {
         ensures { result ≡ code_of self }
     {
         (self.0 % 65_536) as u16
+    }
+
+    /// Whether the word is below another.
+    pub fn is_below(self, other: Self) -> bool
+        ensures { result ≡ nat_lt self other }
+    {
+        self < other
     }
 
     /// The number of the word.

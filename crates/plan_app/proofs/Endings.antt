@@ -21,7 +21,8 @@ use Rattle.plan_app.specs.declared.ending.Ending.{Ending}
 use Rattle.plan_app.specs.declared.ending.Ending.TheVariants as ending
 use Rattle.plan_app.specs.Words.{Names}
 use Rattle.plan_app.specs.Balanced.{IsBalancedFor}
-use Rattle.plan_app.specs.Verdict.{most_text, charged_by, IsThin, IsDecoded}
+use Rattle.ppddl_lex.specs.declared.lexer.TheConstants.{MOST_TEXT}
+use Rattle.plan_app.specs.Verdict.{charged_by, IsThin, IsDecoded}
 use Rattle.plan_app.specs.Ending.{Concludes, CertificateStops, JudgeStops, IsReported, Reports, ending_of_refusal}
 
 longer_held : (told : Told) (limit : ℕ) → (told ≡ Missing → ⊥) → ((bytes : List ℕ) → told ≡ Holds bytes → limit < length bytes)
@@ -55,7 +56,7 @@ module _ (q : Names) (held : List ℕ → Told) (before mid now : ℕ) where
     certificate_concludes (ending.Accepted report) earlier stop = absurd stop
 
 module _ (q : Names) (held : List ℕ → Told) (before now : ℕ) (domain : List ℕ) (task : Task) (c : Content)
-    (domain_holds : MayHold (held q.domain) domain) (short : length domain ≤ most_text) (is_task : task_of domain ≡ Some task)
+    (domain_holds : MayHold (held q.domain) domain) (short : length domain ≤ MOST_TEXT) (is_task : task_of domain ≡ Some task)
     (certificate_holds : MayHold (held q.certificate) (text_of c)) (decoded : IsDecoded (text_of c) c) where
   pub judge_concludes : ((d : Content) → IsDecoded (text_of c) d → d ≡ c) → (e : Ending) → JudgeStops task c e → Concludes q held before now e
   judge_concludes only ending.NoMemory stop = tt

@@ -1,6 +1,6 @@
 -- What the status says of the texts, from how the run ended.
 use Rattle.std.proofs.Common.{◌≡◌, ◌≢◌, ℕ, ◌⊎◌, inl, inr, List, [], refl, sym, ap, ◌∙◌, subst, arith, Option, Some, None}
-use Rattle.std.specs.Prelude.{◌↔◌}
+use Rattle.std.specs.Prelude.{◌↔◌, ◌==◌, if◌then◌else◌}
 use Rattle.std.proofs.lemmas.List.{append-nil}
 use Rattle.std.specs.Io.KnownBytes.{append_known}
 use Rattle.shelf_io.specs.Causes.{Rose}
@@ -33,6 +33,26 @@ one_task domain task task' is is' = cc (is, is')
 one_charge : (task task' : Task) (charges charges' : Charges) → task ≡ task' → charged_by task ≡ Some charges → charged_by task' ≡ Some charges' → charges ≡ charges'
 one_charge task task' charges charges' same is is' = cc (ap charged_by same, is, is')
 
+-- ---- an ending by its status
+
+abbrev by_status : ℕ → List ℕ → Ending
+by_status status text =
+    if status == 0 then ending.Accepted text else if status == 2 then ending.BadWords else if status == 3 then ending.ReadFailed
+    else if status == 5 then ending.NoMemory else if status == 6 then ending.Refused else if status == 7 then ending.NotAccepted else ending.TooLong
+
+ending_is : (e : Ending) → e ≡ by_status (status_of e) (ending_text e)
+ending_is ending.BadWords = refl
+ending_is ending.ReadFailed = refl
+ending_is ending.NoMemory = refl
+ending_is ending.TooLong = refl
+ending_is ending.Refused = refl
+ending_is ending.NotAccepted = refl
+ending_is (ending.Accepted report) = refl
+
+-- an ending with this status is the one that has it
+pub ending_at : (e : Ending) (status : ℕ) → status_of e ≡ status → e ≡ by_status status (ending_text e)
+ending_at e status is = ending_is e ∙ ap (λ n. by_status n (ending_text e)) is
+
 -- ---- the verdicts exclude each other
 
 not_thin_and_refused : (domain : List ℕ) (task : Task) (charges : Charges) → IsThin domain task charges → IsRefused domain → ⊥
@@ -51,22 +71,14 @@ not_accepted_and_rejected domain f (task, charges, c, thin, decoded, balanced) (
 
 module _ (held : List ℕ → Told) (before now : ℕ) (q : Names) (domain : List ℕ) (told : held q.domain ≡ Holds domain) where
   pub refused_at : (e : Ending) → Concludes q held before now e → status_of e ≡ 6 → IsRefused domain
-  refused_at ending.Refused (d, holds, refused) is = subst IsRefused (told_held _ domain d told holds) refused
-  refused_at ending.BadWords ends is = absurd ends
-  refused_at ending.ReadFailed ends is = absurd (omega (arith, is))
-  refused_at ending.NoMemory ends is = absurd (omega (arith, is))
-  refused_at ending.TooLong ends is = absurd (omega (arith, is))
-  refused_at ending.NotAccepted ends is = absurd (omega (arith, is))
-  refused_at (ending.Accepted report) ends is = absurd (omega (arith, is))
+  refused_at e ends is =
+      let (d, holds, refused) = subst (Concludes q held before now) (ending_at e 6 is) ends in
+      subst IsRefused (told_held _ domain d told holds) refused
 
   pub too_long_at : (e : Ending) → Concludes q held before now e → status_of e ≡ 8 → IsTooLong domain
-  too_long_at ending.TooLong (d, holds, long) is = subst IsTooLong (told_held _ domain d told holds) long
-  too_long_at ending.BadWords ends is = absurd ends
-  too_long_at ending.ReadFailed ends is = absurd (omega (arith, is))
-  too_long_at ending.NoMemory ends is = absurd (omega (arith, is))
-  too_long_at ending.Refused ends is = absurd (omega (arith, is))
-  too_long_at ending.NotAccepted ends is = absurd (omega (arith, is))
-  too_long_at (ending.Accepted report) ends is = absurd (omega (arith, is))
+  too_long_at e ends is =
+      let (d, holds, long) = subst (Concludes q held before now) (ending_at e 8 is) ends in
+      subst IsTooLong (told_held _ domain d told holds) long
 
   thin_at : (d : List ℕ) (task : Task) (charges : Charges) → MayHold (held q.domain) d → IsThin d task charges → IsThin domain task charges
   thin_at d task charges holds thin = subst (λ text. IsThin text task charges) (told_held _ domain d told holds) thin

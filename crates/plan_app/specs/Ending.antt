@@ -23,7 +23,8 @@ use Rattle.ppddl_reader.specs.ThinText.{task_of}
 use Rattle.ppddl_reader.specs.ThinTask.{IsThinTask}
 use Rattle.plan_app.specs.declared.ending.Ending.{Ending}
 use Rattle.plan_app.specs.declared.ending.Ending.TheVariants as ending
-use Rattle.plan_app.specs.Words.{Names, request_of}
+use Rattle.std.specs.Borrow.{Bor}
+use Rattle.plan_app.specs.Words.{Names, spelled, request_of}
 use Rattle.plan_app.specs.Texts.{accepted_text, bad_words_text, read_failed_text, refused_text, not_accepted_text, limit_text}
 use Rattle.plan_app.specs.Balanced.{IsBalancedFor, EnclosesFor}
 use Rattle.plan_app.specs.Verdict.{IsTooLong, IsRefused, IsThin, IsDecoded, IsRejected, charged_by}
@@ -144,15 +145,19 @@ pub record Ends (words : List (List ℕ)) (held : List ℕ → Told) (before now
   pub status_is : status ≡ status_of reason
   pub text_is : text ≡ ending_text reason
 
+-- the same of the words and of a shelf before and after
+abbrev pub EndsOver : {S : Type 0} → (S → List ℕ → Told) → (S → ℕ) → List (Bor (List ℕ)) → S → S → ℕ → List ℕ → Type 0
+EndsOver held reads words old new status text = Ends (spelled words) (held old) (reads old) (reads new) status text
+
 pub record HasVerdict (status : ℕ) : Type 0 where
   pub no_read_fault : status ≢ 3
   pub no_write_fault : status ≢ 4
   pub enough_memory : status ≢ 5
 
-pub record OnlyRead (held held' : List ℕ → Told) (before now writes writes' : ℕ) : Type 0 where
-  pub held_same : held' ≡ held
-  pub later : before ≤ now
-  pub no_write_fault : writes' ≡ writes
+pub record OnlyRead {S : Type 0} (held : S → List ℕ → Told) (reads writes : S → ℕ) (old new : S) : Type 0 where
+  pub held_same : held new ≡ held old
+  pub later : reads old ≤ reads new
+  pub no_write_fault : writes new ≡ writes old
 
 abbrev pub IsAnswer : ℕ → Type 0
 IsAnswer status = Contains (0 ∷ 5 ∷ 6 ∷ 7 ∷ 8 ∷ []) status

@@ -8,26 +8,24 @@
 --     charged_by task             the charges of `check`: the goal reward is the penalty, and there is no step cost
 use Rattle.std.specs.Prelude.{◌≡◌, ℕ, ◌<◌, ◌≤◌, List, length, Option, Some, None}
 use Rattle.certificate.specs.Content.{Content, IsTextOf, most_bytes}
+use Rattle.ppddl_lex.specs.declared.lexer.TheConstants.{MOST_TEXT}
 use Rattle.ppddl_model.specs.declared.tree.Task.{Task}
 use Rattle.ppddl_model.specs.Steps.{Charges, charges_of}
 use Rattle.ppddl_reader.specs.ThinText.{task_of}
 use Rattle.plan_app.specs.Balanced.{IsBalancedFor}
 
-abbrev pub most_text : ℕ
-most_text = 1048576
-
 abbrev pub charged_by : Task → Option Charges
 charged_by = charges_of (record { penalty = None; step_cost = 0 })
 
 abbrev pub IsTooLong : List ℕ → Type 0
-IsTooLong domain = most_text < length domain
+IsTooLong domain = MOST_TEXT < length domain
 
 pub record IsRefused (domain : List ℕ) : Type 0 where
-  pub short : length domain ≤ most_text
+  pub short : length domain ≤ MOST_TEXT
   pub not_thin : task_of domain ≡ None
 
 pub record IsThin (domain : List ℕ) (task : Task) (charges : Charges) : Type 0 where
-  pub short : length domain ≤ most_text
+  pub short : length domain ≤ MOST_TEXT
   pub thin : task_of domain ≡ Some task
   pub charged : charged_by task ≡ Some charges
 

@@ -5,7 +5,8 @@ ghost use Rattle.shelf_io.specs.Shelf.{MayHold};
 ghost use Rattle.ppddl_reader.specs.ThinTask.{IsThinTask};
 ghost use Rattle.ppddl_reader.specs.ThinText.{task_of};
 ghost use Rattle.certificate.specs.Content.{Content, text_of};
-ghost use Rattle.plan_app.specs.Verdict.{most_text, IsDecoded};
+ghost use Rattle.ppddl_lex.specs.declared.lexer.TheConstants.{MOST_TEXT};
+ghost use Rattle.plan_app.specs.Verdict.{IsDecoded};
 ghost use Rattle.plan_app.specs.Ending.{EndsWith, Concludes, Reports, OnlyRead, TextStops, TaskStops, CertificateStops, JudgeStops, IsReported, ending_of_refusal};
 
 use crate::checker::is_balanced;
@@ -14,12 +15,10 @@ use crate::report::check_report;
 use crate::words::{Request, request_of};
 use certificate::{CertRefusal, Certificate, text_laws};
 use plain_list::Bytes;
+use ppddl_lex::MOST_TEXT;
 use ppddl_model::{Task, TextRefusal};
 use shelf_io::{Shelf, ShelfFault};
 use std::alloc::Global;
-
-/// The greatest length of a planning text, in bytes.
-const MOST_TEXT: u64 = 1_048_576;
 
 /// The greatest length of a certificate's text, in bytes.
 const MOST_CERTIFICATE: u64 = 67_108_864;
@@ -27,7 +26,7 @@ const MOST_CERTIFICATE: u64 = 67_108_864;
 /// How the run with these words ends.
 pub(crate) fn ending_of<S: Shelf>(alloc: Global, words: &[&str], shelf: &mut S) -> Ending
     ensures ends { EndsWith (map (λ word. word.now) words.now) (S.held shelf.old) (S.read_faults shelf.old) (S.read_faults shelf.new) result }
-    ensures shelf { OnlyRead (S.held shelf.old) (S.held shelf.new) (S.read_faults shelf.old) (S.read_faults shelf.new) (S.write_faults shelf.old) (S.write_faults shelf.new) }
+    ensures shelf { OnlyRead S.held S.read_faults S.write_faults shelf.old shelf.new }
 {
     match request_of(words) {
         None => Ending::BadWords,
@@ -46,7 +45,7 @@ fn check_files<S: Shelf>(
 ) -> Result<Bytes, Ending>
     ensures report { IfOk result (Reports request.now (S.held shelf.old)) }
     ensures stop { IfErr result (Concludes request.now (S.held shelf.old) (S.read_faults shelf.old) (S.read_faults shelf.new)) }
-    ensures shelf { OnlyRead (S.held shelf.old) (S.held shelf.new) (S.read_faults shelf.old) (S.read_faults shelf.new) (S.write_faults shelf.old) (S.write_faults shelf.new) }
+    ensures shelf { OnlyRead S.held S.read_faults S.write_faults shelf.old shelf.new }
 {
     let text = read_text(alloc, request, shelf)?;
     let task = task_of(alloc, &text)?;
@@ -57,11 +56,11 @@ fn check_files<S: Shelf>(
 /// The planning text of the request.
 fn read_text<S: Shelf>(alloc: Global, request: &Request<'_>, shelf: &mut S) -> Result<Bytes, Ending>
     ensures held { IfOk result (MayHold (S.held shelf.old request.now.domain)) }
-    ensures short { IfOk result (λ text. length text ≤ most_text) }
+    ensures short { IfOk result (λ text. length text ≤ MOST_TEXT) }
     ensures stop { IfErr result (TextStops request.now (S.held shelf.old) (S.read_faults shelf.old) (S.read_faults shelf.new)) }
-    ensures shelf { OnlyRead (S.held shelf.old) (S.held shelf.new) (S.read_faults shelf.old) (S.read_faults shelf.new) (S.write_faults shelf.old) (S.write_faults shelf.new) }
+    ensures shelf { OnlyRead S.held S.read_faults S.write_faults shelf.old shelf.new }
 {
-    match shelf.read(alloc, request.domain(), MOST_TEXT) {
+    match shelf.read(alloc, request.domain(), MOST_TEXT as u64) {
         Ok(text) => Ok(text),
         Err(ShelfFault::Failed) => Err(Ending::ReadFailed),
         Err(ShelfFault::TooLong) => Err(Ending::TooLong),
@@ -71,7 +70,7 @@ fn read_text<S: Shelf>(alloc: Global, request: &Request<'_>, shelf: &mut S) -> R
 
 /// The task of a planning text.
 fn task_of(alloc: Global, text: &Bytes) -> Result<Task, Ending>
-    requires { length text.now ≤ most_text }
+    requires { length text.now ≤ MOST_TEXT }
     ensures task { IfOk result (λ task. task_of text.now ≡ Some task) }
     ensures thin { IfOk result IsThinTask }
     ensures stop { IfErr result (TaskStops text.now) }
@@ -92,7 +91,7 @@ fn read_certificate<S: Shelf>(
     ensures certificate { IfOk result (λ c. MayHold (S.held shelf.old request.now.certificate) (text_of c) × IsDecoded (text_of c) c) }
     ensures only { IfOk result (λ c. (d : Content) → IsDecoded (text_of c) d → d ≡ c) }
     ensures stop { IfErr result (CertificateStops request.now (S.held shelf.old) (S.read_faults shelf.old) (S.read_faults shelf.new)) }
-    ensures shelf { OnlyRead (S.held shelf.old) (S.held shelf.new) (S.read_faults shelf.old) (S.read_faults shelf.new) (S.write_faults shelf.old) (S.write_faults shelf.new) }
+    ensures shelf { OnlyRead S.held S.read_faults S.write_faults shelf.old shelf.new }
 {
     text_laws();
     match shelf.read(alloc, request.certificate(), MOST_CERTIFICATE) {

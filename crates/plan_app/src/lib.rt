@@ -7,6 +7,7 @@ mod ending;
 mod laws;
 mod program;
 mod report;
+mod status;
 mod words;
 
 pub use laws::certificate_laws;

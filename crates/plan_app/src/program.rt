@@ -5,12 +5,14 @@ ghost use Rattle.std.specs.Io.KnownBytes.{append_known};
 ghost use Rattle.shelf_io.specs.Causes.{Rose};
 ghost use Rattle.shelf_io.specs.Shelf.{Holds};
 ghost use Rattle.shelf_io.specs.Streams.{PutsPrefix};
-ghost use Rattle.plan_app.specs.Words.{Names, request_of};
+ghost use Rattle.plan_app.specs.Words.{Names, spelled, Asks, AsksNothing};
+ghost use Rattle.plan_app.specs.declared.status.TheConstants.{ACCEPTED, BAD_WORDS, READ_FAILED, WRITE_FAILED, NO_MEMORY, REFUSED, NOT_ACCEPTED, LIMIT};
 ghost use Rattle.plan_app.specs.Verdict.{IsTooLong, IsRefused, IsAccepted, IsRejected};
-ghost use Rattle.plan_app.specs.Ending.{Ends, HasVerdict, IsMissing, IsAnswer, IsTold, Reported, OnlyRead, status_of, ending_text};
+ghost use Rattle.plan_app.specs.Ending.{EndsOver, HasVerdict, IsMissing, IsAnswer, IsTold, Reported, OnlyRead, status_of, ending_text};
 
 use crate::check::ending_of;
 use crate::ending::Ending;
+use crate::status::WRITE_FAILED;
 use shelf_io::{Gate, Shelf, Sink, Source, put_all};
 use std::alloc::Global;
 use std::thread::Threads;
@@ -28,28 +30,39 @@ pub fn run<R: Threads + Sync, S: Shelf, I: Source + Send, O: Sink + Send, G: Gat
     gate: &G,
 ) -> u8
     // Where the status is none of 3, 4 and 5, it is exactly what the words and the bytes say.
-    ensures bad_words { result ≢ 4 → (result ≡ 2) ↔ (request_of (map (λ word. word.now) words.now) ≡ None) }
-    ensures too_long { (q : Names) (domain : List ℕ) → request_of (map (λ word. word.now) words.now) ≡ Some q → S.held shelf.old q.domain ≡ Holds domain → HasVerdict result → (result ≡ 8) ↔ IsTooLong domain }
-    ensures refused { (q : Names) (domain : List ℕ) → request_of (map (λ word. word.now) words.now) ≡ Some q → S.held shelf.old q.domain ≡ Holds domain → HasVerdict result → (result ≡ 6) ↔ IsRefused domain }
-    ensures accepted { (q : Names) (domain f : List ℕ) → IsTold (map (λ word. word.now) words.now) (S.held shelf.old) q domain f → HasVerdict result → (result ≡ 0) ↔ IsAccepted domain f }
-    ensures rejected { (q : Names) (domain f : List ℕ) → IsTold (map (λ word. word.now) words.now) (S.held shelf.old) q domain f → HasVerdict result → (result ≡ 7) ↔ IsRejected domain f }
+    ensures bad_words { result ≢ WRITE_FAILED → (result ≡ BAD_WORDS) ↔ AsksNothing words.now }
+    ensures too_long { (q : Names) (domain : List ℕ) → Asks words.now q → S.held shelf.old q.domain ≡ Holds domain
+        → HasVerdict result → (result ≡ LIMIT) ↔ IsTooLong domain }
+    ensures refused { (q : Names) (domain : List ℕ) → Asks words.now q → S.held shelf.old q.domain ≡ Holds domain
+        → HasVerdict result → (result ≡ REFUSED) ↔ IsRefused domain }
+    ensures accepted { (q : Names) (domain f : List ℕ) → IsTold (spelled words.now) (S.held shelf.old) q domain f
+        → HasVerdict result → (result ≡ ACCEPTED) ↔ IsAccepted domain f }
+    ensures rejected { (q : Names) (domain f : List ℕ) → IsTold (spelled words.now) (S.held shelf.old) q domain f
+        → HasVerdict result → (result ≡ NOT_ACCEPTED) ↔ IsRejected domain f }
 
     // The certificate that was accepted encloses, and its report was put.
-    ensures encloses { (q : Names) (domain f : List ℕ) → IsTold (map (λ word. word.now) words.now) (S.held shelf.old) q domain f → result ≡ 0 → Reported domain f (O.taken out.old) (O.taken out.new) }
+    ensures encloses { (q : Names) (domain f : List ℕ) → IsTold (spelled words.now) (S.held shelf.old) q domain f
+        → result ≡ ACCEPTED → Reported domain f (O.taken out.old) (O.taken out.new) }
 
     // When 3 and 4 come. Want of memory, 5, is free.
-    ensures read_failed { result ≡ 3 → Rose (S.read_faults shelf.old) (S.read_faults shelf.new) ⊎ ((q : Names) × (request_of (map (λ word. word.now) words.now) ≡ Some q) × IsMissing (S.held shelf.old) q) }
-    ensures write_failed { result ≡ 4 → Rose (O.faults out.old) (O.faults out.new) }
+    ensures read_failed { result ≡ READ_FAILED → Rose (S.read_faults shelf.old) (S.read_faults shelf.new)
+        ⊎ ((q : Names) × Asks words.now q × IsMissing (S.held shelf.old) q) }
+    ensures write_failed { result ≡ WRITE_FAILED → Rose (O.faults out.old) (O.faults out.new) }
 
     // A request has an answer where no fault came and no name is missing.
-    ensures answered { (q : Names) → request_of (map (λ word. word.now) words.now) ≡ Some q → ¬ Rose (S.read_faults shelf.old) (S.read_faults shelf.new) → ¬ Rose (O.faults out.old) (O.faults out.new) → ¬ IsMissing (S.held shelf.old) q → IsAnswer result }
-    ensures memory { result ≡ 5 → O.taken out.new ≡ O.taken out.old }
+    ensures answered { (q : Names) → Asks words.now q → ¬ Rose (S.read_faults shelf.old) (S.read_faults shelf.new)
+        → ¬ Rose (O.faults out.old) (O.faults out.new) → ¬ IsMissing (S.held shelf.old) q → IsAnswer result }
+    ensures memory { result ≡ NO_MEMORY → O.taken out.new ≡ O.taken out.old }
 
     // What is put: the whole text of the ending, or after 4 a first part of it.
-    ensures ends { result ≢ 4 → (text : List ℕ) × Ends (map (λ word. word.now) words.now) (S.held shelf.old) (S.read_faults shelf.old) (S.read_faults shelf.new) result text × (O.taken out.new ≡ append_known (O.taken out.old) text) }
-    ensures cut_short { result ≡ 4 → (status : ℕ) × (text : List ℕ) × Ends (map (λ word. word.now) words.now) (S.held shelf.old) (S.read_faults shelf.old) (S.read_faults shelf.new) status text × PutsPrefix (O.taken out.old) (O.taken out.new) text }
+    ensures ends { result ≢ WRITE_FAILED → (text : List ℕ)
+        × EndsOver S.held S.read_faults words.now shelf.old shelf.new result text
+        × (O.taken out.new ≡ append_known (O.taken out.old) text) }
+    ensures cut_short { result ≡ WRITE_FAILED → (status : ℕ) × (text : List ℕ)
+        × EndsOver S.held S.read_faults words.now shelf.old shelf.new status text
+        × PutsPrefix (O.taken out.old) (O.taken out.new) text }
 
-    ensures shelf { OnlyRead (S.held shelf.old) (S.held shelf.new) (S.read_faults shelf.old) (S.read_faults shelf.new) (S.write_faults shelf.old) (S.write_faults shelf.new) }
+    ensures shelf { OnlyRead S.held S.read_faults S.write_faults shelf.old shelf.new }
     ensures source { input.new ≡ input.old }
 {
     let ending = ending_of(alloc, words, shelf);
@@ -58,13 +71,13 @@ pub fn run<R: Threads + Sync, S: Shelf, I: Source + Send, O: Sink + Send, G: Gat
 
 /// Puts the text of the ending, and answers its status; 4 where the text was not put whole.
 fn put_ending<O: Sink>(out: &mut O, ending: &Ending) -> u8
-    ensures status { result ≢ 4 → result ≡ status_of ending.now }
-    ensures put { result ≢ 4 → O.taken out.new ≡ append_known (O.taken out.old) (ending_text ending.now) }
-    ensures cut_short { result ≡ 4 → PutsPrefix (O.taken out.old) (O.taken out.new) (ending_text ending.now) }
-    ensures write_failed { result ≡ 4 → Rose (O.faults out.old) (O.faults out.new) }
+    ensures status { result ≢ WRITE_FAILED → result ≡ status_of ending.now }
+    ensures put { result ≢ WRITE_FAILED → O.taken out.new ≡ append_known (O.taken out.old) (ending_text ending.now) }
+    ensures cut_short { result ≡ WRITE_FAILED → PutsPrefix (O.taken out.old) (O.taken out.new) (ending_text ending.now) }
+    ensures write_failed { result ≡ WRITE_FAILED → Rose (O.faults out.old) (O.faults out.new) }
 {
     match put_all(out, ending.text()) {
         Ok(()) => ending.status(),
-        Err(_) => 4,
+        Err(_) => WRITE_FAILED,
     }
 }

@@ -6,16 +6,14 @@
 --     is_flag w             a word that begins with `:`
 use Rattle.std.specs.Prelude.{◌≡◌, ℕ, ◌+◌, List, [], ◌∷◌, map, codes, Bool, true, false, cond, not, ◌==◌, ◌&&◌, ◌||◌, leb, refl}
 use Rattle.std.specs.List.{list_any, list_all}
-use Rattle.std.specs.Str.{bytes_eq}
-
-abbrev pub is_capital : ℕ → Bool
-is_capital b = leb 65 b && leb b 90
+use Rattle.std.specs.Str.{bytes_eq, str_to_ascii_lowercase}
+use Rattle.std.specs.Char.{to_ascii_lowercase}
 
 abbrev pub lowered_byte : ℕ → ℕ
-lowered_byte b = cond (is_capital b) (b + 32) b
+lowered_byte = to_ascii_lowercase
 
 abbrev pub lowered : List ℕ → List ℕ
-lowered w = map lowered_byte w
+lowered = str_to_ascii_lowercase
 
 abbrev pub is_same_word : List ℕ → List ℕ → Bool
 is_same_word w lower = bytes_eq (lowered w) lower

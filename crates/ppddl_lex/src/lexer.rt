@@ -5,10 +5,14 @@ ghost use Rattle.ppddl_lex.specs.Bytes.{is_word_byte, continues_comment, line_fe
 ghost use Rattle.ppddl_lex.specs.Gaps.{IsLastGap, IsNext, Spells};
 ghost use Rattle.ppddl_lex.specs.Lexemes.{tokens_at, tokens_of, token_of, depth_behind, Continues, Gives, IfToken, LiesBehind};
 ghost use Rattle.ppddl_lex.specs.Tokens.{Lies, IsClosed};
+ghost use Rattle.ppddl_lex.specs.declared.lexer.TheConstants.{MOST_TEXT};
 
 use crate::bytes::{ByteClass, class_of, is_word_byte};
 use crate::{LexRefusal, List, Token, TokenKind};
 use std::alloc::Global;
+
+/// The greatest length of a text, in bytes.
+pub const MOST_TEXT: usize = 1_048_576;
 
 /// The most parentheses that may be open.
 const MOST_OPEN: u32 = 100;
@@ -30,7 +34,7 @@ fn comment_length(bytes: &[u8]) -> usize
 /// A token of a text of at most 1 MiB.
 fn token(kind: TokenKind, from: usize, to: usize, line: u32) -> Token
     requires ordered { from ≤ to }
-    requires short { to ≤ 1048576 }
+    requires short { to ≤ MOST_TEXT }
     ensures { result ≡ token_of kind from to line }
 {
     Token {
@@ -49,7 +53,7 @@ fn token(kind: TokenKind, from: usize, to: usize, line: u32) -> Token
 // Inlined, so that a loop over tokens does not hand each one over through memory.
 #[inline(always)]
 pub fn next_token(text: &[u8], place: usize, line: u32) -> Option<Result<Token, LexRefusal>>
-    requires short { length text.now ≤ 1048576 }
+    requires short { length text.now ≤ MOST_TEXT }
     requires within { place ≤ length text.now }
     requires few_lines { line < 2 ^ 31 }
     ensures next { Continues text.now place line result }
@@ -109,7 +113,7 @@ fn line_feeds(bytes: &[u8]) -> usize
 /// All tokens of a text, in order, or the first refusal in byte order. What is open at the end is refused last, on
 /// the last line.
 pub fn tokens(alloc: Global, text: &[u8]) -> Result<List<Token>, LexRefusal>
-    requires { length text.now ≤ 1048576 }
+    requires { length text.now ≤ MOST_TEXT }
     ensures exact { Gives result (tokens_of text.now) }
     ensures lie { IfOk result (All (Lies (length text.now))) }
     ensures closed { IfOk result IsClosed }

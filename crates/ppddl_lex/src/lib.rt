@@ -6,7 +6,7 @@ mod lexer;
 mod refusal;
 mod words;
 
-pub use lexer::{next_token, tokens};
+pub use lexer::{MOST_TEXT, next_token, tokens};
 pub use plain_list::List;
 pub use refusal::LexRefusal;
 pub use words::{is_flag, is_name, is_reserved, is_same_word, is_variable, lowered_byte};

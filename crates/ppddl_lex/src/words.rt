@@ -27,10 +27,7 @@ const RESERVED: [&[u8]; 15] = [
 pub fn lowered_byte(byte: u8) -> u8
     ensures { result ≡ lowered_byte byte }
 {
-    match byte {
-        b'A'..=b'Z' => byte + 32,
-        _ => byte,
-    }
+    byte.to_ascii_lowercase()
 }
 
 /// Whether a byte is a letter.

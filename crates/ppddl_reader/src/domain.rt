@@ -2,7 +2,7 @@
 
 ghost use Rattle.std.specs.Prelude.{◌≡◌, ◌<◌, [], IfOk, OnOk};
 ghost use Rattle.token_cursor.specs.Ahead.{size};
-ghost use Rattle.token_cursor.specs.Reading.{Gives, one_at, rest_at};
+ghost use Rattle.token_cursor.specs.Reading.{Gives, ReadsOne, ReadsRest};
 ghost use Rattle.ppddl_reader.specs.Grammar.{declares, listed, predicate, new_name, has_action, action_of, action, flags, predicates_section, first_flag, first_section, domain_with, declarations, domain_sections, heading, domain};
 
 use crate::forms::{declares, read_effect};
@@ -21,7 +21,7 @@ fn read_new_predicate(
     cursor: &mut Cursor<'_>,
     seen: &[PredicateDecl],
 ) -> Result<Name, TextRefusal>
-    ensures gives { Gives (λ n. (n, cursor.new)) result (one_at (new_name (declares seen.now)) cursor.old) }
+    ensures gives { ReadsOne (new_name (declares seen.now)) cursor.old cursor.new result }
     ensures fewer { OnOk result (size cursor.new < size cursor.old) }
 {
     let name = read_name(alloc, cursor)?;
@@ -37,7 +37,7 @@ fn read_predicate(
     cursor: &mut Cursor<'_>,
     seen: &[PredicateDecl],
 ) -> Result<PredicateDecl, TextRefusal>
-    ensures gives { Gives (λ p. (p, cursor.new)) result (one_at (predicate seen.now) cursor.old) }
+    ensures gives { ReadsOne (predicate seen.now) cursor.old cursor.new result }
     ensures fewer { OnOk result (size cursor.new < size cursor.old) }
 {
     cursor.open()?;
@@ -54,7 +54,7 @@ fn read_predicates(
     alloc: Global,
     cursor: &mut Cursor<'_>,
 ) -> Result<List<PredicateDecl>, TextRefusal>
-    ensures gives { Gives (λ ps. (ps, cursor.new)) result (rest_at (listed predicate []) cursor.old) }
+    ensures gives { ReadsRest (listed predicate []) cursor.old cursor.new result }
     ensures fewer { OnOk result (size cursor.new < size cursor.old) }
 {
     let mut seen: Vec<PredicateDecl> = Vec::new(alloc);
@@ -96,7 +96,7 @@ fn read_new_action(
     cursor: &mut Cursor<'_>,
     seen: &[Action],
 ) -> Result<Name, TextRefusal>
-    ensures gives { Gives (λ n. (n, cursor.new)) result (one_at (new_name (has_action seen.now)) cursor.old) }
+    ensures gives { ReadsOne (new_name (has_action seen.now)) cursor.old cursor.new result }
     ensures fewer { OnOk result (size cursor.new < size cursor.old) }
 {
     let name = read_name(alloc, cursor)?;
@@ -113,7 +113,7 @@ fn read_action(
     predicates: &[PredicateDecl],
     seen: &[Action],
 ) -> Result<Action, TextRefusal>
-    ensures gives { Gives (λ a. (a, cursor.new)) result (one_at (action predicates.now seen.now) cursor.old) }
+    ensures gives { ReadsOne (action predicates.now seen.now) cursor.old cursor.new result }
     ensures fewer { OnOk result (size cursor.new < size cursor.old) }
 {
     cursor.open_group(b":action")?;
@@ -130,7 +130,7 @@ fn read_actions(
     cursor: &mut Cursor<'_>,
     predicates: &[PredicateDecl],
 ) -> Result<List<Action>, TextRefusal>
-    ensures gives { Gives (λ done. (done, cursor.new)) result (rest_at (listed (action predicates.now) []) cursor.old) }
+    ensures gives { ReadsRest (listed (action predicates.now) []) cursor.old cursor.new result }
     ensures fewer { OnOk result (size cursor.new < size cursor.old) }
 {
     let mut seen: Vec<Action> = Vec::new(alloc);
@@ -147,7 +147,7 @@ fn read_actions(
 
 /// Goes past the flags up to the end of the group.
 fn read_flags(cursor: &mut Cursor<'_>) -> Result<(), TextRefusal>
-    ensures gives { Gives (λ _. (tt, cursor.new)) result (rest_at flags cursor.old) }
+    ensures gives { ReadsRest flags cursor.old cursor.new result }
     ensures fewer { OnOk result (size cursor.new < size cursor.old) }
 {
     while cursor.has_form() {
@@ -161,7 +161,7 @@ fn read_predicates_section(
     alloc: Global,
     cursor: &mut Cursor<'_>,
 ) -> Result<List<PredicateDecl>, TextRefusal>
-    ensures gives { Gives (λ ps. (ps, cursor.new)) result (one_at predicates_section cursor.old) }
+    ensures gives { ReadsOne predicates_section cursor.old cursor.new result }
     ensures fewer { OnOk result (size cursor.new < size cursor.old) }
 {
     cursor.open_group(b":predicates")?;
@@ -180,7 +180,7 @@ enum FirstSection {
 /// Goes past the flag of the first section.
 #[tactic(auto, unfolding(crate::specs::Grammar::first_flag, token_cursor::specs::Sequences::keyword))]
 fn read_first_flag(cursor: &mut Cursor<'_>) -> Result<FirstSection, TextRefusal>
-    ensures gives { Gives (λ section. (section, cursor.new)) result (one_at first_flag cursor.old) }
+    ensures gives { ReadsOne first_flag cursor.old cursor.new result }
     ensures fewer { OnOk result (size cursor.new < size cursor.old) }
 {
     if cursor.is_word(b":requirements") {
@@ -196,7 +196,7 @@ fn read_first_section(
     alloc: Global,
     cursor: &mut Cursor<'_>,
 ) -> Result<Option<List<PredicateDecl>>, TextRefusal>
-    ensures gives { Gives (λ ps. (ps, cursor.new)) result (one_at first_section cursor.old) }
+    ensures gives { ReadsOne first_section cursor.old cursor.new result }
     ensures fewer { OnOk result (size cursor.new < size cursor.old) }
 {
     cursor.open()?;
@@ -220,7 +220,7 @@ fn read_domain_with(
     name: Name,
     predicates: List<PredicateDecl>,
 ) -> Result<Domain, TextRefusal>
-    ensures gives { Gives (λ d. (d, cursor.new)) result (rest_at (domain_with name predicates) cursor.old) }
+    ensures gives { ReadsRest (domain_with name predicates) cursor.old cursor.new result }
     ensures fewer { OnOk result (size cursor.new < size cursor.old) }
 {
     let actions = read_actions(alloc, cursor, predicates.as_slice())?;
@@ -239,7 +239,7 @@ fn read_declarations(
     cursor: &mut Cursor<'_>,
     name: Name,
 ) -> Result<Domain, TextRefusal>
-    ensures gives { Gives (λ d. (d, cursor.new)) result (rest_at (declarations name) cursor.old) }
+    ensures gives { ReadsRest (declarations name) cursor.old cursor.new result }
     ensures fewer { OnOk result (size cursor.new < size cursor.old) }
 {
     let predicates = read_predicates_section(alloc, cursor)?;
@@ -248,7 +248,7 @@ fn read_declarations(
 
 /// Reads the sections of a domain with this name, and its `)`.
 fn read_sections(alloc: Global, cursor: &mut Cursor<'_>, name: Name) -> Result<Domain, TextRefusal>
-    ensures gives { Gives (λ d. (d, cursor.new)) result (rest_at (domain_sections name) cursor.old) }
+    ensures gives { ReadsRest (domain_sections name) cursor.old cursor.new result }
     ensures fewer { OnOk result (size cursor.new < size cursor.old) }
 {
     let section = read_first_section(alloc, cursor)?;
@@ -264,7 +264,7 @@ pub(crate) fn read_heading(
     cursor: &mut Cursor<'_>,
     kind: &[u8],
 ) -> Result<Name, TextRefusal>
-    ensures gives { Gives (λ n. (n, cursor.new)) result (one_at (heading kind.now) cursor.old) }
+    ensures gives { ReadsOne (heading kind.now) cursor.old cursor.new result }
     ensures fewer { OnOk result (size cursor.new < size cursor.old) }
 {
     cursor.open_group(kind)?;
@@ -275,7 +275,7 @@ pub(crate) fn read_heading(
 
 /// Reads `( define ( domain NAME ) .. )`.
 pub(crate) fn read_domain(alloc: Global, cursor: &mut Cursor<'_>) -> Result<Domain, TextRefusal>
-    ensures gives { Gives (λ d. (d, cursor.new)) result (one_at domain cursor.old) }
+    ensures gives { ReadsOne domain cursor.old cursor.new result }
     ensures fewer { OnOk result (size cursor.new < size cursor.old) }
 {
     cursor.open_group(b"define")?;

@@ -2,7 +2,7 @@
 
 ghost use Rattle.std.specs.Prelude.{◌≡◌, ◌<◌, OnOk};
 ghost use Rattle.token_cursor.specs.Ahead.{size};
-ghost use Rattle.token_cursor.specs.Reading.{Gives, one_at, rest_at};
+ghost use Rattle.token_cursor.specs.Reading.{Gives, ReadsOne, ReadsRest};
 ghost use Rattle.ppddl_reader.specs.Grammar.{declares, atom_of, predicate_name, atom_in, atom, condition_of, reward, cost, chance, effect_of};
 
 use crate::numbers::{read_amount, read_probability};
@@ -43,7 +43,7 @@ fn read_predicate_name(
     cursor: &mut Cursor<'_>,
     predicates: &[PredicateDecl],
 ) -> Result<Atom, TextRefusal>
-    ensures gives { Gives (λ a. (a, cursor.new)) result (one_at (predicate_name predicates.now) cursor.old) }
+    ensures gives { ReadsOne (predicate_name predicates.now) cursor.old cursor.new result }
     ensures fewer { OnOk result (size cursor.new < size cursor.old) }
 {
     let name = read_name(alloc, cursor)?;
@@ -56,7 +56,7 @@ fn read_atom_in(
     cursor: &mut Cursor<'_>,
     predicates: &[PredicateDecl],
 ) -> Result<Atom, TextRefusal>
-    ensures gives { Gives (λ a. (a, cursor.new)) result (rest_at (atom_in predicates.now) cursor.old) }
+    ensures gives { ReadsRest (atom_in predicates.now) cursor.old cursor.new result }
     ensures fewer { OnOk result (size cursor.new < size cursor.old) }
 {
     let atom = read_predicate_name(alloc, cursor, predicates)?;
@@ -70,7 +70,7 @@ pub(crate) fn read_atom(
     cursor: &mut Cursor<'_>,
     predicates: &[PredicateDecl],
 ) -> Result<Atom, TextRefusal>
-    ensures gives { Gives (λ a. (a, cursor.new)) result (one_at (atom predicates.now) cursor.old) }
+    ensures gives { ReadsOne (atom predicates.now) cursor.old cursor.new result }
     ensures fewer { OnOk result (size cursor.new < size cursor.old) }
 {
     cursor.open()?;
@@ -83,7 +83,7 @@ pub(crate) fn read_condition(
     cursor: &mut Cursor<'_>,
     predicates: &[PredicateDecl],
 ) -> Result<Condition, TextRefusal>
-    ensures gives { Gives (λ x. (x, cursor.new)) result (one_at (condition_of predicates.now) cursor.old) }
+    ensures gives { ReadsOne (condition_of predicates.now) cursor.old cursor.new result }
     ensures fewer { OnOk result (size cursor.new < size cursor.old) }
 {
     cursor.open()?;
@@ -97,7 +97,7 @@ pub(crate) fn read_condition(
 
 /// Goes past `( reward )`.
 pub(crate) fn read_reward(cursor: &mut Cursor<'_>) -> Result<(), TextRefusal>
-    ensures gives { Gives (λ _. (tt, cursor.new)) result (one_at reward cursor.old) }
+    ensures gives { ReadsOne reward cursor.old cursor.new result }
     ensures fewer { OnOk result (size cursor.new < size cursor.old) }
 {
     cursor.open_group(b"reward")?;
@@ -106,7 +106,7 @@ pub(crate) fn read_reward(cursor: &mut Cursor<'_>) -> Result<(), TextRefusal>
 
 /// Reads `( decrease ( reward ) AMOUNT )`.
 fn read_cost(alloc: Global, cursor: &mut Cursor<'_>) -> Result<Effect, TextRefusal>
-    ensures gives { Gives (λ e. (e, cursor.new)) result (one_at cost cursor.old) }
+    ensures gives { ReadsOne cost cursor.old cursor.new result }
     ensures fewer { OnOk result (size cursor.new < size cursor.old) }
 {
     cursor.open_group(b"decrease")?;
@@ -122,7 +122,7 @@ fn read_chance(
     cursor: &mut Cursor<'_>,
     predicates: &[PredicateDecl],
 ) -> Result<Effect, TextRefusal>
-    ensures gives { Gives (λ e. (e, cursor.new)) result (one_at (chance predicates.now) cursor.old) }
+    ensures gives { ReadsOne (chance predicates.now) cursor.old cursor.new result }
     ensures fewer { OnOk result (size cursor.new < size cursor.old) }
 {
     cursor.open_group(b"probabilistic")?;
@@ -143,7 +143,7 @@ pub(crate) fn read_effect(
     cursor: &mut Cursor<'_>,
     predicates: &[PredicateDecl],
 ) -> Result<Effect, TextRefusal>
-    ensures gives { Gives (λ e. (e, cursor.new)) result (one_at (effect_of predicates.now) cursor.old) }
+    ensures gives { ReadsOne (effect_of predicates.now) cursor.old cursor.new result }
     ensures fewer { OnOk result (size cursor.new < size cursor.old) }
 {
     cursor.open_group(b"and")?;

@@ -17,6 +17,7 @@ mod words;
 ghost use Rattle.std.specs.Prelude.{◌≡◌, ◌≤◌, ◌⊎◌, length, IfOk, IfErr, IsNone, IsSome};
 ghost use Rattle.ppddl_model.specs.declared.refusal.TextCode.TheVariants.{Unsupported};
 ghost use Rattle.ppddl_model.specs.declared.refusal.TextRefusal.TheVariants.{At, Memory};
+ghost use Rattle.ppddl_lex.specs.declared.lexer.TheConstants.{MOST_TEXT};
 ghost use Rattle.token_cursor.specs.Reading.{Gives, all_at};
 ghost use Rattle.ppddl_reader.specs.Grammar.{thin_text};
 ghost use Rattle.ppddl_reader.specs.ThinTask.{IsThinTask};
@@ -47,7 +48,7 @@ fn read_task(alloc: Global, cursor: &mut Cursor<'_>) -> Result<Task, TextRefusal
 
 /// Reads the task of a text.
 fn read_text(alloc: Global, text: &[u8]) -> Result<Task, TextRefusal>
-    requires { length text.now ≤ 1048576 }
+    requires { length text.now ≤ MOST_TEXT }
     ensures { Reads result (task_of text.now) }
 {
     match tokens(alloc, text) {
@@ -80,7 +81,7 @@ fn not_thin() -> TextRefusal
 
 /// Reads the task of a thin text of at most 1 MiB. There is no thin pair of texts.
 pub fn read(alloc: Global, first: &[u8], second: Option<&[u8]>) -> Result<Task, TextRefusal>
-    requires { length first.now ≤ 1048576 }
+    requires { length first.now ≤ MOST_TEXT }
     ensures task { IfOk result (λ task. IsNone second.entry × (task_of first.now ≡ Some task)) }
     ensures thin { IfOk result IsThinTask }
     // Apart from want of memory there is one refusal, and only where there is a second text or no task.

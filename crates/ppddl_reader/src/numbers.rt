@@ -2,7 +2,7 @@
 
 ghost use Rattle.std.specs.Prelude.{◌≡◌, ◌<◌, OnOk};
 ghost use Rattle.token_cursor.specs.Ahead.{size};
-ghost use Rattle.token_cursor.specs.Reading.{Gives, one_at};
+ghost use Rattle.token_cursor.specs.Reading.{Gives, ReadsOne, ReadsRest};
 ghost use Rattle.ppddl_reader.specs.Words.{has_slash};
 ghost use Rattle.ppddl_reader.specs.Grammar.{amount, probability, probability_code};
 
@@ -37,7 +37,7 @@ pub(crate) fn read_amount(
     cursor: &mut Cursor<'_>,
     most: u64,
 ) -> Result<u64, TextRefusal>
-    ensures gives { Gives (λ n. (n, cursor.new)) result (one_at (amount most) cursor.old) }
+    ensures gives { ReadsOne (amount most) cursor.old cursor.new result }
     ensures fewer { OnOk result (size cursor.new < size cursor.old) }
 {
     if cursor.next() != Next::Word {
@@ -59,7 +59,7 @@ pub(crate) fn read_probability(
     alloc: Global,
     cursor: &mut Cursor<'_>,
 ) -> Result<Fraction, TextRefusal>
-    ensures gives { Gives (λ p. (p, cursor.new)) result (one_at probability cursor.old) }
+    ensures gives { ReadsOne probability cursor.old cursor.new result }
     ensures fewer { OnOk result (size cursor.new < size cursor.old) }
 {
     if cursor.next() != Next::Word {

@@ -2,7 +2,7 @@
 
 ghost use Rattle.std.specs.Prelude.{◌≡◌, ◌<◌, [], OnOk};
 ghost use Rattle.token_cursor.specs.Ahead.{same, size};
-ghost use Rattle.token_cursor.specs.Reading.{Gives, one_at, rest_at};
+ghost use Rattle.token_cursor.specs.Reading.{Gives, ReadsOne, ReadsRest};
 ghost use Rattle.ppddl_reader.specs.Grammar.{known_name, domain_section, facts, init_section, goal_section, reward_section, metric_value, metric, metric_and_end, problem_end, problem_sections, problem};
 
 use crate::domain::read_heading;
@@ -21,7 +21,7 @@ const MOST_REWARD: u64 = 100_000_000_000_000;
 /// Goes past the domain's name.
 #[tactic(auto, using(token_cursor::proofs::GroupSteps::group_steps), unfolding(crate::specs::Grammar::known_name))]
 fn read_known_name(alloc: Global, cursor: &mut Cursor<'_>, known: &[u8]) -> Result<(), TextRefusal>
-    ensures gives { Gives (λ _. (tt, cursor.new)) result (one_at (known_name known.now) cursor.old) }
+    ensures gives { ReadsOne (known_name known.now) cursor.old cursor.new result }
     ensures fewer { OnOk result (size cursor.new < size cursor.old) }
 {
     let name = read_name(alloc, cursor)?;
@@ -37,7 +37,7 @@ fn read_domain_section(
     cursor: &mut Cursor<'_>,
     known: &[u8],
 ) -> Result<(), TextRefusal>
-    ensures gives { Gives (λ _. (tt, cursor.new)) result (one_at (domain_section known.now) cursor.old) }
+    ensures gives { ReadsOne (domain_section known.now) cursor.old cursor.new result }
     ensures fewer { OnOk result (size cursor.new < size cursor.old) }
 {
     cursor.open_group(b":domain")?;
@@ -51,7 +51,7 @@ fn read_facts(
     cursor: &mut Cursor<'_>,
     predicates: &[PredicateDecl],
 ) -> Result<List<InitItem>, TextRefusal>
-    ensures gives { Gives (λ items. (items, cursor.new)) result (rest_at (facts predicates.now []) cursor.old) }
+    ensures gives { ReadsRest (facts predicates.now []) cursor.old cursor.new result }
     ensures fewer { OnOk result (size cursor.new < size cursor.old) }
 {
     let mut items: Vec<InitItem> = Vec::new(alloc);
@@ -69,7 +69,7 @@ fn read_init_section(
     cursor: &mut Cursor<'_>,
     predicates: &[PredicateDecl],
 ) -> Result<List<InitItem>, TextRefusal>
-    ensures gives { Gives (λ items. (items, cursor.new)) result (one_at (init_section predicates.now) cursor.old) }
+    ensures gives { ReadsOne (init_section predicates.now) cursor.old cursor.new result }
     ensures fewer { OnOk result (size cursor.new < size cursor.old) }
 {
     cursor.open_group(b":init")?;
@@ -82,7 +82,7 @@ fn read_goal_section(
     cursor: &mut Cursor<'_>,
     predicates: &[PredicateDecl],
 ) -> Result<Condition, TextRefusal>
-    ensures gives { Gives (λ goal. (goal, cursor.new)) result (one_at (goal_section predicates.now) cursor.old) }
+    ensures gives { ReadsOne (goal_section predicates.now) cursor.old cursor.new result }
     ensures fewer { OnOk result (size cursor.new < size cursor.old) }
 {
     cursor.open_group(b":goal")?;
@@ -93,7 +93,7 @@ fn read_goal_section(
 
 /// Reads `( :goal-reward AMOUNT )`.
 fn read_reward_section(alloc: Global, cursor: &mut Cursor<'_>) -> Result<u64, TextRefusal>
-    ensures gives { Gives (λ reward. (reward, cursor.new)) result (one_at reward_section cursor.old) }
+    ensures gives { ReadsOne reward_section cursor.old cursor.new result }
     ensures fewer { OnOk result (size cursor.new < size cursor.old) }
 {
     cursor.open_group(b":goal-reward")?;
@@ -105,7 +105,7 @@ fn read_reward_section(alloc: Global, cursor: &mut Cursor<'_>) -> Result<u64, Te
 /// Goes past `reward` or `( reward )`.
 #[tactic(auto, unfolding(crate::specs::Grammar::metric_value))]
 fn read_metric_value(cursor: &mut Cursor<'_>) -> Result<(), TextRefusal>
-    ensures gives { Gives (λ _. (tt, cursor.new)) result (one_at metric_value cursor.old) }
+    ensures gives { ReadsOne metric_value cursor.old cursor.new result }
     ensures fewer { OnOk result (size cursor.new < size cursor.old) }
 {
     if cursor.next() == Next::Open {
@@ -116,7 +116,7 @@ fn read_metric_value(cursor: &mut Cursor<'_>) -> Result<(), TextRefusal>
 
 /// Goes past `( :metric maximize REWARD )`.
 fn read_metric(cursor: &mut Cursor<'_>) -> Result<(), TextRefusal>
-    ensures gives { Gives (λ _. (tt, cursor.new)) result (one_at metric cursor.old) }
+    ensures gives { ReadsOne metric cursor.old cursor.new result }
     ensures fewer { OnOk result (size cursor.new < size cursor.old) }
 {
     cursor.open_group(b":metric")?;
@@ -127,7 +127,7 @@ fn read_metric(cursor: &mut Cursor<'_>) -> Result<(), TextRefusal>
 
 /// Goes past the metric, which may be missing, and the `)` behind it.
 fn read_metric_and_end(cursor: &mut Cursor<'_>) -> Result<(), TextRefusal>
-    ensures gives { Gives (λ _. (tt, cursor.new)) result (rest_at metric_and_end cursor.old) }
+    ensures gives { ReadsRest metric_and_end cursor.old cursor.new result }
     ensures fewer { OnOk result (size cursor.new < size cursor.old) }
 {
     if cursor.has_form() {
@@ -144,7 +144,7 @@ fn read_problem_end(
     init: List<InitItem>,
     goal: Condition,
 ) -> Result<Problem, TextRefusal>
-    ensures gives { Gives (λ p. (p, cursor.new)) result (rest_at (problem_end name init goal) cursor.old) }
+    ensures gives { ReadsRest (problem_end name init goal) cursor.old cursor.new result }
     ensures fewer { OnOk result (size cursor.new < size cursor.old) }
 {
     let reward = read_reward_section(alloc, cursor)?;
@@ -167,7 +167,7 @@ fn read_sections(
     domain: &Domain,
     name: Name,
 ) -> Result<Problem, TextRefusal>
-    ensures gives { Gives (λ p. (p, cursor.new)) result (rest_at (problem_sections domain.now name) cursor.old) }
+    ensures gives { ReadsRest (problem_sections domain.now name) cursor.old cursor.new result }
     ensures fewer { OnOk result (size cursor.new < size cursor.old) }
 {
     let predicates = domain.predicates.as_slice();
@@ -183,7 +183,7 @@ pub(crate) fn read_problem(
     cursor: &mut Cursor<'_>,
     domain: &Domain,
 ) -> Result<Problem, TextRefusal>
-    ensures gives { Gives (λ p. (p, cursor.new)) result (one_at (problem domain.now) cursor.old) }
+    ensures gives { ReadsOne (problem domain.now) cursor.old cursor.new result }
     ensures fewer { OnOk result (size cursor.new < size cursor.old) }
 {
     cursor.open_group(b"define")?;

@@ -2,7 +2,7 @@
 
 ghost use Rattle.std.specs.Prelude.{◌≡◌, ◌<◌, OnOk};
 ghost use Rattle.token_cursor.specs.Ahead.{size};
-ghost use Rattle.token_cursor.specs.Reading.{Gives, one_at};
+ghost use Rattle.token_cursor.specs.Reading.{Gives, ReadsOne, ReadsRest};
 ghost use Rattle.ppddl_reader.specs.Grammar.{name, flag};
 
 use ppddl_lex::{is_flag, is_name};
@@ -20,7 +20,7 @@ pub(crate) struct Name {
 /// Reads a name.
 #[tactic(auto, unfolding(crate::specs::Grammar::name))]
 pub(crate) fn read_name(alloc: Global, cursor: &mut Cursor<'_>) -> Result<Name, TextRefusal>
-    ensures gives { Gives (λ n. (n, cursor.new)) result (one_at name cursor.old) }
+    ensures gives { ReadsOne name cursor.old cursor.new result }
     ensures fewer { OnOk result (size cursor.new < size cursor.old) }
 {
     if cursor.next() != Next::Word {
@@ -38,7 +38,7 @@ pub(crate) fn read_name(alloc: Global, cursor: &mut Cursor<'_>) -> Result<Name, 
 /// Goes past a flag.
 #[tactic(auto, unfolding(crate::specs::Grammar::flag))]
 pub(crate) fn read_flag(cursor: &mut Cursor<'_>) -> Result<(), TextRefusal>
-    ensures gives { Gives (λ _. (tt, cursor.new)) result (one_at flag cursor.old) }
+    ensures gives { ReadsOne flag cursor.old cursor.new result }
     ensures fewer { OnOk result (size cursor.new < size cursor.old) }
 {
     if cursor.next() != Next::Word || !is_flag(cursor.raw_word()) {

@@ -80,3 +80,10 @@ opened h = elim (next_of h) [
 abbrev pub wanted : List ℕ → TextCode → Form → Result (Unit {0}) Fault
 wanted w code (lone v a) = cond (same v w) (Ok tt) (fails code a)
 wanted w code (group a fs b) = fails code a
+
+-- a call reads one form, or the rest of a group, from what was ahead to what is
+abbrev pub ReadsOne : {A : Type 0} → (Form → Result A Fault) → Ahead → Ahead → Result A TextRefusal → Type 0
+ReadsOne read old new answer = Gives (λ x. (x, new)) answer (one_at read old)
+
+abbrev pub ReadsRest : {A : Type 0} → (Forms → Place → Result A Fault) → Ahead → Ahead → Result A TextRefusal → Type 0
+ReadsRest read old new answer = Gives (λ x. (x, new)) answer (rest_at read old)

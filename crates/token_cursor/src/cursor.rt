@@ -1,6 +1,6 @@
 //! The cursor: a place between two tokens of a text. After a refusal it is not used again.
 
-ghost use Rattle.std.specs.Prelude.{◌≡◌, ◌≢◌, ◌<◌, ◌+◌, ◌^◌, length, All, true, IfOk, OnOk, IsErrOf};
+ghost use Rattle.std.specs.Prelude.{◌≡◌, ◌≢◌, ◌<◌, ◌+◌, ◌^◌, length, All, true, IfOk, OnOk, OnErr, IsErrOf};
 ghost use Rattle.ppddl_model.specs.declared.refusal.TextRefusal.TheVariants.{At};
 ghost use Rattle.ppddl_lex.specs.Tokens.{Lies, IsClosed};
 ghost use Rattle.ppddl_lex.specs.Words.{lowered};
@@ -162,6 +162,7 @@ impl<'a> Cursor<'a> {
     pub fn expect_word(&mut self, word: &[u8], code: TextCode) -> Result<(), TextRefusal>
         ensures gives { Gives (λ _. (tt, self.new)) result (one_at (wanted word.now code) self.old) }
         ensures fewer { OnOk result (size self.new < size self.old) }
+        ensures kept { OnErr result (self.new ≡ self.old) }
         ensures no_memory { ¬ IsErrOf result TextRefusal.Memory }
     {
         if !self.has_form() {
@@ -178,6 +179,7 @@ impl<'a> Cursor<'a> {
     pub fn open(&mut self) -> Result<(), TextRefusal>
         ensures gives { Gives (λ _. self.new) result (opened self.old) }
         ensures fewer { OnOk result (size self.new < size self.old) }
+        ensures kept { OnErr result (self.new ≡ self.old) }
         ensures no_memory { ¬ IsErrOf result TextRefusal.Memory }
     {
         if self.next() != Next::Open {
@@ -193,6 +195,7 @@ impl<'a> Cursor<'a> {
     pub fn expect_keyword(&mut self, word: &[u8]) -> Result<(), TextRefusal>
         ensures gives { Gives (λ _. (tt, self.new)) result (one_at (keyword word.now) self.old) }
         ensures fewer { OnOk result (size self.new < size self.old) }
+        ensures kept { OnErr result (self.new ≡ self.old) }
         ensures no_memory { ¬ IsErrOf result TextRefusal.Memory }
     {
         self.expect_word(word, TextCode::Expected)
@@ -214,6 +217,7 @@ impl<'a> Cursor<'a> {
     pub fn close(&mut self) -> Result<(), TextRefusal>
         ensures gives { Gives (λ _. (tt, self.new)) result (rest_at ends self.old) }
         ensures fewer { OnOk result (size self.new < size self.old) }
+        ensures kept { OnErr result (self.new ≡ self.old) }
         ensures no_memory { ¬ IsErrOf result TextRefusal.Memory }
     {
         if self.next() != Next::Close {

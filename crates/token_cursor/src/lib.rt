@@ -5,9 +5,9 @@
 //! cursor answers what that function gives on what lies ahead, with the place of what is refused.
 #![tactic(auto)]
 
-pub mod cursor;
+mod cursor;
 mod laws;
-pub mod place;
+mod place;
 #[cfg(test)]
 mod tests;
 

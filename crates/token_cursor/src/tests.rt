@@ -2,14 +2,13 @@
 //! answer what its grammar in specs/ gives.
 
 ghost use Rattle.std.specs.Prelude.{◌≡◌, ℕ, ◌<◌, List, [], All, Ok, IfOk, OnOk, true};
-ghost use Rattle.ppddl_lex.specs.Tokens.{Lies, IsClosed};
 ghost use Rattle.token_cursor.specs.Ahead.{Ahead, put, size};
 ghost use Rattle.token_cursor.specs.Forms.{Form};
 ghost use Rattle.token_cursor.specs.Reading.{Gives, read_to, one_at, rest_at, all_at, many};
 ghost use Rattle.token_cursor.specs.Examples.{term, equal, names, has_word, terms};
 
 use crate::{Cursor, Next, Place};
-use ppddl_lex::{Token, TokenKind};
+use ppddl_lex::tokens;
 use ppddl_model::{List, Text, TextCode, TextRefusal};
 use std::alloc::{AllocError, Global};
 use std::test::Fail;
@@ -118,79 +117,6 @@ fn read_text(alloc: Global, cursor: &mut Cursor<'_>) -> Result<List<Text>, TextR
     Ok(List::from_vec(terms))
 }
 
-/// Whether the tokens lie in a text of this length.
-fn lie(length: usize, tokens: &[Token]) -> bool
-    ensures { result ≡ true → All (Lies length) tokens.now }
-{
-    for token in tokens {
-        if token.from > token.to || token.to as usize > length {
-            return false;
-        }
-    }
-    true
-}
-
-/// Whether every parenthesis among the tokens closes.
-fn are_closed(tokens: &[Token]) -> bool
-    ensures { result ≡ true → IsClosed tokens.now }
-{
-    let mut open: usize = 0;
-    for token in tokens {
-        match token.kind {
-            TokenKind::Left => open += 1,
-            TokenKind::Right => {
-                if open == 0 {
-                    return false;
-                }
-                open -= 1;
-            }
-            TokenKind::Word => {}
-        }
-    }
-    open == 0
-}
-
-/// The tokens of a text that has no comments.
-fn tokens_of(alloc: Global, text: &[u8]) -> Result<Vec<Token>, Fail> {
-    let mut tokens: Vec<Token> = Vec::new(alloc);
-    let mut line: u32 = 1;
-    for (index, byte) in text.iter().enumerate() {
-        let at = u32::try_from(index)?;
-        let kind = match *byte {
-            b'\n' => {
-                line = line.saturating_add(1);
-                continue;
-            }
-            b' ' => continue,
-            b'(' => TokenKind::Left,
-            b')' => TokenKind::Right,
-            _ => TokenKind::Word,
-        };
-        let from = match tokens.pop() {
-            Some(last) => {
-                let goes_on = last.kind == TokenKind::Word
-                    && kind == TokenKind::Word
-                    && last.to == at;
-                if goes_on {
-                    last.from
-                } else {
-                    tokens.push(last)?;
-                    at
-                }
-            }
-            None => at,
-        };
-        let to = u32::try_from(index + 1)?;
-        tokens.push(Token {
-            kind,
-            from,
-            to,
-            line,
-        })?;
-    }
-    Ok(tokens)
-}
-
 fn push_line(out: &mut Vec<u8>, place: Place) -> Result<(), AllocError> {
     out.push(b'0' + (place.line % 10) as u8)?;
     Ok(())
@@ -281,12 +207,8 @@ fn walks_over_texts(rt: HostRuntime) -> Result<(), Fail> {
     ];
     for (text, expected) in rows {
         let bytes = text.as_bytes();
-        let tokens = tokens_of(rt.alloc(), bytes)?;
-        assert!(rt;
-            bytes.len() < 1000
-                && lie(bytes.len(), tokens.as_slice())
-                && are_closed(tokens.as_slice())
-        );
+        assert!(rt; bytes.len() < 1000);
+        let tokens = tokens(rt.alloc(), bytes)?;
         let cursor = Cursor::over(bytes, tokens.as_slice(), 1);
         let walked = walk(rt.alloc(), cursor)?;
         assert_eq!(rt; walked.as_slice(), expected.as_bytes(), "{text}");
@@ -319,12 +241,8 @@ fn readers_answer_values_and_places(rt: HostRuntime) -> Result<(), Fail> {
     ];
     for (reader, text, expected) in rows {
         let bytes = text.as_bytes();
-        let tokens = tokens_of(rt.alloc(), bytes)?;
-        assert!(rt;
-            bytes.len() < 1000
-                && lie(bytes.len(), tokens.as_slice())
-                && are_closed(tokens.as_slice())
-        );
+        assert!(rt; bytes.len() < 1000);
+        let tokens = tokens(rt.alloc(), bytes)?;
         let cursor = Cursor::over(bytes, tokens.as_slice(), 2);
         let answer = answer_of(rt.alloc(), reader, cursor)?;
         assert_eq!(rt; answer.as_slice(), expected.as_bytes(), "{text}");

@@ -1,8 +1,5 @@
 //! The rows of a certificate by the bits of their states.
 
-ghost use Rattle.std.specs.Prelude.{◌≡◌, ◌≤◌, length, cond, IfOk, MatchOption};
-ghost use Rattle.plan_app.specs.Table.{AreRows};
-
 use crate::checker::bits::bits_of_texts;
 use certificate::Row;
 use plain_list::Text;
