@@ -9,7 +9,8 @@ use Rattle.certificate.specs.declared.model.Row.{Row}
 use Rattle.certificate.specs.declared.refusal.CertRefusal.{CertRefusal}
 use Rattle.certificate.specs.declared.refusal.CertRefusal.TheVariants.{TooLong}
 use Rattle.certificate.specs.Spelling.{penalty_line, interval_line, states_line, row_line}
-use Rattle.certificate.specs.Content.{Content, most_units, most_rows, most_bytes, rises, compare_texts, IsRow, IsCertificate, lines_of, text_of, IsTextOf}
+use Rattle.certificate.specs.Content.{Content, most_units, most_rows, most_bytes, IsRow, IsCertificate, lines_of, text_of, IsTextOf}
+use Rattle.plain_list.specs.Texts.{rises, compare_texts}
 use Rattle.certificate.specs.Decoding.{parts, penalty_of, interval_of, count_of, field_at, row_of}
 use Rattle.certificate.specs.Reading.{line_at, said_at, header_of, follows, row_at, rows_at, read_lines, read_of}
 use Rattle.certificate.specs.Answers.{Gives}

@@ -5,9 +5,11 @@ use Rattle.std.specs.Str.{bytes_eq}
 use Rattle.std.proofs.lemmas.Bool.{cases_Bool, ltb-true, lt-ltb}
 use Rattle.certificate.specs.declared.refusal.CertRefusal.{CertRefusal}
 use Rattle.certificate.specs.declared.refusal.CertRefusal.TheVariants.{Syntax, Order, Count, TooLong}
-use Rattle.certificate.specs.Content.{most_bytes, rises, compare_texts}
+use Rattle.certificate.specs.Content.{most_bytes}
+use Rattle.plain_list.specs.Texts.{rises, compare_texts}
 use Rattle.certificate.specs.Decoding.{parts, penalty_of, interval_of, count_of, row_of}
-use Rattle.certificate.specs.Reading.{◌>>=◌, or_syntax, line_at, said_at, header_of, follows, row_at, rows_at, nothing_at, end_at, read_lines, read_of}
+use Rattle.plain_list.specs.Results.{◌>>=◌}
+use Rattle.certificate.specs.Reading.{or_syntax, line_at, said_at, header_of, follows, row_at, rows_at, nothing_at, end_at, read_lines, read_of}
 
 abbrev IsShort : {A : Type 0} → Result A CertRefusal → Type 0
 IsShort read = read ≡ Err TooLong → ⊥

@@ -5,7 +5,7 @@ use Rattle.std.specs.Cmp.Lexicographic.{slice_cmp}
 use Rattle.std.proofs.lemmas.Bool.Decides.{nat_tests}
 use Rattle.std.proofs.Math.Seq.{take-length}
 use Rattle.std.proofs.lemmas.List.{at_drop_more, at_drop_all, length-drop}
-use Rattle.certificate.specs.Content.{rises, rises_behind}
+use Rattle.plain_list.specs.Texts.{rises, rises_behind}
 
 pub is_lt-from_ge : (o : Ordering) → is_ge o ≡ true → is_lt o ≡ false
 is_lt-from_ge Less e = absurd cc

@@ -7,7 +7,8 @@ use Rattle.std.proofs.lemmas.List.{append-nil}
 use Rattle.certificate.specs.declared.model.Row.{Row}
 use Rattle.certificate.specs.declared.refusal.CertRefusal.{CertRefusal}
 use Rattle.certificate.specs.declared.refusal.CertRefusal.TheVariants as refusals
-use Rattle.certificate.specs.Reading.{◌>>=◌, line_at, row_at, rows_at}
+use Rattle.plain_list.specs.Results.{◌>>=◌}
+use Rattle.certificate.specs.Reading.{line_at, row_at, rows_at}
 use Rattle.certificate.specs.Answers.{Refuses}
 
 pub Refuses-then : {A B : Type 0} (e : CertRefusal) (read : Result A CertRefusal) (f : A → Result B CertRefusal) → Refuses e read → Refuses e (read >>= f)

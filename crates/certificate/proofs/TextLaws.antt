@@ -10,10 +10,12 @@ use Rattle.certificate.specs.declared.model.Row.{Row}
 use Rattle.certificate.specs.declared.refusal.CertRefusal.{CertRefusal}
 use Rattle.certificate.specs.declared.refusal.CertRefusal.TheVariants.{Syntax, Order, Count}
 use Rattle.certificate.specs.Spelling.{spaced, penalty_line, interval_line, states_line, row_line}
-use Rattle.certificate.specs.Content.{Content, most_units, most_rows, rises, rises_behind, compare_texts, compare_atoms, IsRow, IsCertificate, lines_of}
+use Rattle.certificate.specs.Content.{Content, most_units, most_rows, compare_atoms, IsRow, IsCertificate, lines_of}
+use Rattle.plain_list.specs.Texts.{rises, rises_behind, compare_texts}
 use Rattle.certificate.specs.Decoding.{only_if, behind, parts, number_of, field_at, penalty_of, interval_of, count_of, row_of}
 use Rattle.certificate.specs.Decoding as decoding
-use Rattle.certificate.specs.Reading.{◌>>=◌, or_syntax, line_at, said_at, header_of, follows, row_at, rows_at, nothing_at, end_at, read_lines}
+use Rattle.plain_list.specs.Results.{◌>>=◌}
+use Rattle.certificate.specs.Reading.{or_syntax, line_at, said_at, header_of, follows, row_at, rows_at, nothing_at, end_at, read_lines}
 use Rattle.certificate.proofs.Steps.{some_is, kept, chained}
 use Rattle.certificate.proofs.Cuts.{behind_is_rest}
 use Rattle.certificate.proofs.Decimals.{number_is, number_again}

@@ -1,6 +1,5 @@
 -- The certificates of version 1 and their one text.
 --     Content            what a certificate says
---     rises cmp xs       each item is below the next
 --     compare_atoms      lists of atoms, compared atom by atom; a proper prefix is smaller
 --     IsCertificate c    the parts of c have the form, the range and the order of version 1
 --     text_of c          the text of c: its lines, each ended by one line feed
@@ -8,8 +7,8 @@
 use Rattle.std.specs.Prelude.{◌≡◌, ℕ, ◌^◌, ◌≤◌, Bool, true, ◌&&◌, List, [], ◌∷◌, ◌++◌, length, map, codes, IsTrue}
 use Rattle.std.specs.List.{flat_map, AllByRecursion}
 use Rattle.std.specs.declared.cmp.Ordering.{Ordering}
-use Rattle.std.specs.Ordering.{nat_cmp, is_lt}
 use Rattle.std.specs.Cmp.Lexicographic.{slice_cmp}
+use Rattle.plain_list.specs.Texts.{compare_texts, rises}
 use Rattle.certificate.specs.declared.model.Act.{Act}
 use Rattle.certificate.specs.declared.model.Act.TheVariants.{GiveUp, Goal, Do}
 use Rattle.certificate.specs.declared.model.Row.{Row}
@@ -33,18 +32,6 @@ most_rows = 10 ^ 6
 -- the greatest length of a text, in bytes
 abbrev pub most_bytes : ℕ
 most_bytes = 67108864
-
-abbrev pub rises_behind : {A : Type 0} → (A → A → Ordering) → A → List A → Bool
-rises_behind cmp x [] = true
-rises_behind cmp x (y ∷ ys) = is_lt (cmp x y) && rises_behind cmp y ys
-
-abbrev pub rises : {A : Type 0} → (A → A → Ordering) → List A → Bool
-rises cmp [] = true
-rises cmp (x ∷ xs) = rises_behind cmp x xs
-
--- bytewise order
-abbrev pub compare_texts : List ℕ → List ℕ → Ordering
-compare_texts = slice_cmp nat_cmp
 
 abbrev pub compare_atoms : List (List ℕ) → List (List ℕ) → Ordering
 compare_atoms = slice_cmp compare_texts

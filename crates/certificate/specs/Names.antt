@@ -1,11 +1,11 @@
 -- Names and lists of names.
 --     is_name w          a lower-case letter, then lower-case letters, digits, `-` and `_`; no word that PPDDL reserves
---     list_text names    `(NAME NAME ..)`, with one blank between two names
 --     IsNameList text    the text is `(NAME NAME ..)` for one name or more
 use Rattle.std.specs.Prelude.{◌≡◌, ℕ, ◌<◌, Bool, false, not, ◌&&◌, ◌||◌, leb, ◌==◌, List, [], ◌∷◌, ◌++◌, length, IsTrue}
-use Rattle.std.specs.List.{list_any, list_all, join_with_byte}
+use Rattle.std.specs.List.{list_any, list_all}
 use Rattle.std.specs.Str.{bytes_eq}
 use Rattle.std.specs.Prelude.{codes}
+use Rattle.plain_list.specs.Texts.{list_text}
 
 abbrev pub is_letter : ℕ → Bool
 is_letter b = leb 97 b && leb b 122
@@ -31,9 +31,6 @@ begins_with_letter (b ∷ bs) = is_letter b
 
 abbrev pub is_name : List ℕ → Bool
 is_name w = begins_with_letter w && list_all is_name_byte w && not (is_reserved w)
-
-abbrev pub list_text : List (List ℕ) → List ℕ
-list_text names = codes "(" ++ join_with_byte 32 names ++ codes ")"
 
 pub record IsNameList (text : List ℕ) : Type 0 where
   pub names : List (List ℕ)

@@ -6,16 +6,13 @@
 use Rattle.std.specs.Prelude.{ℕ, zero, suc, ◌+◌, ltb, Bool, true, cond, ◌&&◌, eqb, List, [], ◌∷◌, length, codes, Option, Some, None, Result, Ok, Err}
 use Rattle.std.specs.Str.{bytes_eq}
 use Rattle.std.specs.Ordering.{is_lt}
+use Rattle.plain_list.specs.Results.{◌>>=◌}
 use Rattle.certificate.specs.declared.model.Row.{Row}
 use Rattle.certificate.specs.declared.refusal.CertRefusal.{CertRefusal}
 use Rattle.certificate.specs.declared.refusal.CertRefusal.TheVariants.{Syntax, Order, Count, TooLong}
-use Rattle.certificate.specs.Content.{Content, rises, compare_texts, compare_atoms, most_bytes}
+use Rattle.certificate.specs.Content.{Content, compare_atoms, most_bytes}
+use Rattle.plain_list.specs.Texts.{rises, compare_texts}
 use Rattle.certificate.specs.Decoding.{parts, only_if, penalty_of, interval_of, count_of, row_of}
-
-infixl 10 ◌>>=◌
-abbrev pub ◌>>=◌ : {A B : Type 0} → Result A CertRefusal → (A → Result B CertRefusal) → Result B CertRefusal
-(Ok x) >>= f = f x
-(Err e) >>= f = Err e
 
 -- what line k says, or that it is wrong
 abbrev pub or_syntax : {A : Type 0} → ℕ → Option A → Result A CertRefusal

@@ -9,8 +9,8 @@ use Rattle.std.proofs.lemmas.Map.Text.{is_eq-slice_cmp}
 use Rattle.std.proofs.lemmas.Nat.{or_block, and_block, or_comm, or_shifted, one_shl}
 use Rattle.std.proofs.lemmas.List.{take_more, length-take-le, append_cancel_right}
 use Rattle.std.proofs.Math.Nat.{pow-suc}
-use Rattle.weighted.proofs.Members.{Contains-first, Contains-later, Contains-cons_cases, Contains-nil}
-use Rattle.certificate.specs.Names.{list_text}
+use Rattle.plain_list.proofs.Members.{Contains-first, Contains-later, Contains-cons_cases, Contains-nil}
+use Rattle.plain_list.specs.Texts.{list_text}
 use Rattle.ppddl_model.specs.State.{Name, same_name}
 use Rattle.ppddl_model.proofs.States.{same_name-Decides}
 use Rattle.plan_app.specs.Values.{has_text}

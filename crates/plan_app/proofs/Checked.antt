@@ -4,13 +4,13 @@ use Rattle.std.specs.Prelude.{Contains, filter, MatchBool}
 use Rattle.std.specs.List.{AllZip}
 use Rattle.std.proofs.lemmas.Bool.{ne_eqb}
 use Rattle.std.proofs.lemmas.Bool.Decides.{when_true, when_false}
-use Rattle.weighted.proofs.Members.{Contains-first, Contains-later, Contains-cons_cases, Contains-nil, Contains-map}
+use Rattle.plain_list.proofs.Members.{Contains-first, Contains-later, Contains-cons_cases, Contains-nil, Contains-map}
 use Rattle.decision_process.specs.Process.{Outcome, expected}
 use Rattle.decision_process.specs.Balanced.{IsBalanced}
 use Rattle.certificate.specs.declared.model.Act.{Act}
 use Rattle.certificate.specs.declared.model.Act.TheVariants.{GiveUp, Goal, Do}
 use Rattle.certificate.specs.declared.model.Row.{Row}
-use Rattle.certificate.specs.Names.{list_text}
+use Rattle.plain_list.specs.Texts.{list_text}
 use Rattle.ppddl_model.specs.declared.tree.Action.{Action}
 use Rattle.ppddl_model.specs.declared.tree.Param.{Param}
 use Rattle.ppddl_model.specs.declared.tree.Task.{Task}

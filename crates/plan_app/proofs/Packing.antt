@@ -12,7 +12,7 @@ use Rattle.ppddl_model.specs.declared.tree.Task.{Task}
 use Rattle.ppddl_model.specs.State.{Name, same_name, GroundAtom, same_atom, atom_cmp_total, State, no_atoms, has, with_atom, with_atoms}
 use Rattle.ppddl_model.specs.Changing.{facts, changing_atoms, is_changing, fixed_facts}
 use Rattle.ppddl_model.proofs.States.{same_name-Decides, same_atom-Decides, has-with_atom, has-with_atoms, same_from_has}
-use Rattle.weighted.proofs.Members.{Contains-map}
+use Rattle.plain_list.proofs.Members.{Contains-map}
 use Rattle.plan_app.specs.Values.{has_text, row_state}
 use Rattle.plan_app.specs.Bits.{bits_where}
 use Rattle.plan_app.specs.Table.{row_bits}

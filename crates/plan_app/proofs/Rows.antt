@@ -12,7 +12,7 @@ use Rattle.std.proofs.lemmas.Bool.Decides.{nat_tests}
 use Rattle.std.proofs.lemmas.List.Elements.{Contains-append_right, Contains-push_cases}
 use Rattle.certificate.specs.declared.model.Row.{Row}
 use Rattle.ppddl_model.specs.State.{Name}
-use Rattle.weighted.proofs.Members.{Contains-first, Contains-later, Contains-cons_cases, Contains-nil}
+use Rattle.plain_list.proofs.Members.{Contains-first, Contains-later, Contains-cons_cases, Contains-nil}
 use Rattle.plan_app.specs.declared.checker.table.Bounds.{Bounds}
 use Rattle.plan_app.specs.Balanced.{AreDistinct}
 use Rattle.plan_app.specs.Bits.{is_known}

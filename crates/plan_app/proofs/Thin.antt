@@ -10,7 +10,7 @@ use Rattle.std.proofs.lemmas.List.Folds.{flat_map-map}
 use Rattle.exact_fraction.specs.declared.Fraction.{Fraction}
 use Rattle.exact_fraction.proofs.DivisorLemmas.{IsLeastMultipleOf-common_multiple, common_multiple-pos}
 use Rattle.weighted.proofs.Means.{mean-positive}
-use Rattle.weighted.proofs.Members.{Contains-first, Contains-later, Contains-nil}
+use Rattle.plain_list.proofs.Members.{Contains-first, Contains-later, Contains-nil}
 use Rattle.exact_fraction.specs.Numbers.{IsProbability}
 use Rattle.ppddl_model.specs.declared.tree.Action.{Action}
 use Rattle.ppddl_model.specs.declared.tree.Atom.{Atom}

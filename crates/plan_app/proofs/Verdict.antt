@@ -3,11 +3,11 @@ use Rattle.std.proofs.Common.{◌≡◌, ℕ, ◌+◌, ◌-◌, Bool, true, fals
 use Rattle.std.specs.Prelude.{Contains}
 use Rattle.std.specs.List.{list_any, list_all}
 use Rattle.std.proofs.Math.Nat.{div-one}
-use Rattle.weighted.proofs.Members.{Contains-first, Contains-later, Contains-cons_cases, Contains-nil, Contains-map}
+use Rattle.plain_list.proofs.Members.{Contains-first, Contains-later, Contains-cons_cases, Contains-nil, Contains-map}
 use Rattle.decision_process.specs.Enclosing.{at_starts}
 use Rattle.decision_process.specs.Rounded.{floor, ceiling}
 use Rattle.certificate.specs.declared.model.Row.{Row}
-use Rattle.certificate.specs.Names.{list_text}
+use Rattle.plain_list.specs.Texts.{list_text}
 use Rattle.certificate.specs.Content.{Content}
 use Rattle.ppddl_model.specs.declared.tree.Task.{Task}
 use Rattle.ppddl_model.specs.State.{Name, GroundAtom, no_atoms, with_atoms}

@@ -7,7 +7,7 @@
 use Rattle.std.specs.Prelude.{◌≡◌, ◌≢◌, ℕ, true, false, List, [], ◌∷◌, Some, Contains}
 use Rattle.certificate.specs.declared.model.Act.TheVariants.{Goal, Do}
 use Rattle.certificate.specs.declared.model.Row.{Row}
-use Rattle.certificate.specs.Names.{list_text}
+use Rattle.plain_list.specs.Texts.{list_text}
 use Rattle.certificate.specs.Content.{Content}
 use Rattle.decision_process.specs.Balanced.{IsBalanced, IsInterval}
 use Rattle.decision_process.specs.Enclosing.{Encloses}

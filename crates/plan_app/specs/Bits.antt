@@ -5,7 +5,7 @@
 --     bits_of_texts names texts  the bits of the names whose atom has one of these texts
 use Rattle.std.specs.Prelude.{ℕ, ◌+◌, ◌*◌, Bool, cond, List, [], ◌∷◌}
 use Rattle.std.specs.List.{list_any}
-use Rattle.certificate.specs.Names.{list_text}
+use Rattle.plain_list.specs.Texts.{list_text}
 use Rattle.ppddl_model.specs.State.{Name, same_name}
 use Rattle.plan_app.specs.Values.{has_text}
 

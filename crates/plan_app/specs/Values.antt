@@ -11,7 +11,7 @@ use Rattle.std.specs.List.{list_any}
 use Rattle.certificate.specs.declared.model.Act.{Act}
 use Rattle.certificate.specs.declared.model.Act.TheVariants.{GiveUp, Goal, Do}
 use Rattle.certificate.specs.declared.model.Row.{Row}
-use Rattle.certificate.specs.Names.{list_text}
+use Rattle.plain_list.specs.Texts.{list_text}
 use Rattle.ppddl_model.specs.declared.tree.Task.{Task}
 use Rattle.ppddl_model.specs.declared.tree.Param.{Param}
 use Rattle.ppddl_model.specs.State.{same_name, GroundAtom, State, no_atoms, with_atoms, same_state}

@@ -7,7 +7,8 @@ use Rattle.token_cursor.specs.declared.place.Place.{Place}
 use Rattle.token_cursor.specs.declared.cursor.Next.TheVariants as next
 use Rattle.token_cursor.specs.Forms.{none, more, lone, group}
 use Rattle.token_cursor.specs.Ahead.{Ahead, top, inner, after, next_of, is_word, same}
-use Rattle.token_cursor.specs.Reading.{Fault, ◌>>=◌, read_to, one_at, rest_at, wanted}
+use Rattle.plain_list.specs.Results.{◌>>=◌}
+use Rattle.token_cursor.specs.Reading.{Fault, read_to, one_at, rest_at, wanted}
 use Rattle.token_cursor.proofs.Steps.{rest_close}
 use Rattle.ppddl_reader.specs.declared.domain.FirstSection.TheVariants as first
 use Rattle.token_cursor.specs.Sequences.{giving, one_then, keyword}

@@ -12,7 +12,8 @@ use Rattle.ppddl_model.specs.declared.tree.Task.{Task}
 use Rattle.token_cursor.specs.declared.place.Place.{Place}
 use Rattle.token_cursor.specs.Pieces.{text_ahead}
 use Rattle.token_cursor.specs.Ahead.{Ahead, top, inner}
-use Rattle.token_cursor.specs.Reading.{Fault, fails, ◌>>=◌, Gives, all_at}
+use Rattle.plain_list.specs.Results.{◌>>=◌}
+use Rattle.token_cursor.specs.Reading.{Fault, fails, Gives, all_at}
 use Rattle.ppddl_reader.specs.Grammar.{thin_text}
 use Rattle.ppddl_reader.specs.ThinTask.{IsThinTask}
 use Rattle.ppddl_reader.specs.ThinText.{accepted, not_lexed, task_of_tokens, task_of, Reads}

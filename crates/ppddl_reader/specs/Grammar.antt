@@ -30,7 +30,8 @@ use Rattle.ppddl_model.specs.declared.tree.Task.{Task}
 use Rattle.token_cursor.specs.declared.place.Place.{Place}
 use Rattle.token_cursor.specs.Ahead.{same}
 use Rattle.token_cursor.specs.Forms.{Form, Forms, lone, group, none, more, begin_of}
-use Rattle.token_cursor.specs.Reading.{Fault, fails, ◌>>=◌, ends}
+use Rattle.plain_list.specs.Results.{◌>>=◌}
+use Rattle.token_cursor.specs.Reading.{Fault, fails, ends}
 use Rattle.ppddl_reader.specs.declared.domain.FirstSection.{FirstSection}
 use Rattle.ppddl_reader.specs.declared.domain.FirstSection.TheVariants as first
 use Rattle.ppddl_reader.specs.declared.words.Name.{Name}

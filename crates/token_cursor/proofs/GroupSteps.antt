@@ -7,7 +7,8 @@ use Rattle.ppddl_model.specs.declared.refusal.TextRefusal.{TextRefusal}
 use Rattle.token_cursor.specs.declared.place.Place.{Place}
 use Rattle.token_cursor.specs.Forms.{Form, Forms}
 use Rattle.token_cursor.specs.Ahead.{Ahead}
-use Rattle.token_cursor.specs.Reading.{Fault, ◌>>=◌, Fails, Gives, read_to, one_at, rest_at, ends, opened}
+use Rattle.plain_list.specs.Results.{◌>>=◌}
+use Rattle.token_cursor.specs.Reading.{Fault, Fails, Gives, read_to, one_at, rest_at, ends, opened}
 use Rattle.token_cursor.proofs.Results.{bind_assoc, bind_cong, Fails-here, Fails-behind}
 use Rattle.token_cursor.proofs.Steps.{one_group, rest_one, rest_ends, rest_map}
 use Rattle.token_cursor.specs.Sequences.{in_group, group_with, one_then, last, giving, keyword, begun}

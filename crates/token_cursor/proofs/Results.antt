@@ -4,7 +4,8 @@ use Rattle.std.proofs.Common.{◌≡◌, Result, Ok, Err, refl, sym, ap, subst, 
 use Rattle.ppddl_model.specs.declared.refusal.TextRefusal.{TextRefusal}
 use Rattle.ppddl_model.specs.declared.refusal.TextRefusal.TheVariants as refusal
 use Rattle.token_cursor.specs.Ahead.{Ahead}
-use Rattle.token_cursor.specs.Reading.{Fault, ◌>>=◌, Fails, read_to}
+use Rattle.plain_list.specs.Results.{◌>>=◌}
+use Rattle.token_cursor.specs.Reading.{Fault, Fails, read_to}
 
 pub bind_assoc : {A B C : Type 0} (r : Result A Fault) (f : A → Result B Fault) (g : B → Result C Fault) → ((r >>= f) >>= g) ≡ (r >>= λ x. f x >>= g)
 bind_assoc (Ok x) f g = refl

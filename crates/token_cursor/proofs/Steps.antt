@@ -5,7 +5,8 @@ use Rattle.token_cursor.specs.declared.place.Place.{Place}
 use Rattle.token_cursor.specs.declared.cursor.Next.TheVariants as next
 use Rattle.token_cursor.specs.Forms.{Form, Forms, lone, group, none, more}
 use Rattle.token_cursor.specs.Ahead.{Ahead, top, inner, after, next_of, place_of, word_of}
-use Rattle.token_cursor.specs.Reading.{Fault, fails, ◌>>=◌, read_to, one_at, rest_at, all_at, ends, opened}
+use Rattle.plain_list.specs.Results.{◌>>=◌}
+use Rattle.token_cursor.specs.Reading.{Fault, fails, read_to, one_at, rest_at, all_at, ends, opened}
 use Rattle.token_cursor.proofs.Results.{bind_assoc, through}
 
 -- ---- one form

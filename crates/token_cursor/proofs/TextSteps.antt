@@ -5,7 +5,8 @@ use Rattle.ppddl_model.specs.declared.refusal.TextRefusal.{TextRefusal}
 use Rattle.token_cursor.specs.declared.place.Place.{Place}
 use Rattle.token_cursor.specs.Forms.{Form, Forms, none, more, begin_of}
 use Rattle.token_cursor.specs.Ahead.{Ahead, top, inner, place_of}
-use Rattle.token_cursor.specs.Reading.{Fault, fails, ◌>>=◌, Fails, read_to, one_at, all_at, ends}
+use Rattle.plain_list.specs.Results.{◌>>=◌}
+use Rattle.token_cursor.specs.Reading.{Fault, fails, Fails, read_to, one_at, all_at, ends}
 use Rattle.token_cursor.specs.Sequences.{one_then, last, located}
 use Rattle.token_cursor.proofs.Results.{through, Fails-here, Fails-behind}
 use Rattle.token_cursor.proofs.Steps.{all_one}

@@ -4,7 +4,8 @@ use Rattle.ppddl_model.specs.declared.refusal.TextCode.{TextCode}
 use Rattle.token_cursor.specs.declared.cursor.Next.TheVariants as next
 use Rattle.token_cursor.specs.Forms.{Form, lone}
 use Rattle.token_cursor.specs.Ahead.{Ahead, after, next_of, place_of, word_of}
-use Rattle.token_cursor.specs.Reading.{Fault, fails, ◌>>=◌, read_to, one_at}
+use Rattle.plain_list.specs.Results.{◌>>=◌}
+use Rattle.token_cursor.specs.Reading.{Fault, fails, read_to, one_at}
 use Rattle.token_cursor.proofs.Steps.{one_word}
 
 module _ {A : Type 0} (read : Form → Result A Fault) (h : Ahead) (is : next_of h ≡ next.Word) where

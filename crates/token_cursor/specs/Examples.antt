@@ -9,7 +9,8 @@ use Rattle.token_cursor.specs.declared.place.Place.{Place}
 use Rattle.token_cursor.specs.Forms.{left, right, word, Form, Forms, lone, group, none, more}
 use Rattle.token_cursor.specs.Ahead.{top, inner, ahead_of, pieces_of, same}
 use Rattle.token_cursor.specs.Pieces.{text_ahead}
-use Rattle.token_cursor.specs.Reading.{Fault, fails, ◌>>=◌, one_at, rest_at, all_at}
+use Rattle.plain_list.specs.Results.{◌>>=◌}
+use Rattle.token_cursor.specs.Reading.{Fault, fails, one_at, rest_at, all_at}
 use Rattle.token_cursor.specs.Sequences.{in_group, group_with, one_then, last, keyword}
 
 abbrev line : ℕ → Place

@@ -10,7 +10,8 @@ use Rattle.token_cursor.specs.declared.place.Place.{Place}
 use Rattle.token_cursor.specs.declared.cursor.Next.TheVariants as next
 use Rattle.token_cursor.specs.Forms.{Form, Forms, lone, none}
 use Rattle.token_cursor.specs.Ahead.{Ahead, after, next_of, place_of, word_of}
-use Rattle.token_cursor.specs.Reading.{Fault, ◌>>=◌, read_to, one_at, rest_at, all_at, ends, opened}
+use Rattle.plain_list.specs.Results.{◌>>=◌}
+use Rattle.token_cursor.specs.Reading.{Fault, read_to, one_at, rest_at, all_at, ends, opened}
 use Rattle.token_cursor.specs.Sequences.{in_group, group_with, one_then, last, giving, located, begun}
 
 module _ {A : Type 0} (read : Form → Result A Fault) where

@@ -9,6 +9,7 @@
 --     wanted w code        the word w is read; another form is refused with this code
 --     Gives view r read    what a call answered, seen by view, is what reading gives, unless memory ran out
 use Rattle.std.specs.Prelude.{◌≡◌, ℕ, List, [], ◌∷◌, Result, Ok, Err, cond}
+use Rattle.plain_list.specs.Results.{◌>>=◌}
 use Rattle.ppddl_model.specs.declared.refusal.TextCode.{TextCode}
 use Rattle.ppddl_model.specs.declared.refusal.TextCode.TheVariants.{Expected}
 use Rattle.ppddl_model.specs.declared.refusal.TextRefusal.{TextRefusal}
@@ -21,11 +22,6 @@ use Rattle.token_cursor.specs.Ahead.{Ahead, top, inner, same, next_of, place_of,
 pub record Fault : Type 0 where
   pub code : TextCode
   pub place : Place
-
-infixl 10 ◌>>=◌
-abbrev pub ◌>>=◌ : {A B : Type 0} → Result A Fault → (A → Result B Fault) → Result B Fault
-(Ok x) >>= f = f x
-(Err e) >>= f = Err e
 
 abbrev pub fails : {A : Type 0} → TextCode → Place → Result A Fault
 fails code at = Err (record { code = code; place = at })

@@ -11,7 +11,8 @@ use Rattle.ppddl_model.specs.declared.refusal.TextCode.TheVariants.{Expected}
 use Rattle.token_cursor.specs.declared.place.Place.{Place}
 use Rattle.token_cursor.specs.Ahead.{Ahead}
 use Rattle.token_cursor.specs.Forms.{Form, Forms, lone, group, none, more, begin_of}
-use Rattle.token_cursor.specs.Reading.{Fault, fails, ◌>>=◌, one_at, ends, opened, wanted}
+use Rattle.plain_list.specs.Results.{◌>>=◌}
+use Rattle.token_cursor.specs.Reading.{Fault, fails, one_at, ends, opened, wanted}
 
 -- a word in its place is at fault
 unfoldable pub in_group : {A : Type 0} → (Forms → Place → Result A Fault) → Form → Result A Fault

@@ -1,7 +1,8 @@
 //! The order of atoms and rows.
 
 ghost use Rattle.std.specs.Prelude.{◌≡◌, option_map};
-ghost use Rattle.certificate.specs.Content.{compare_texts, compare_atoms, rises};
+ghost use Rattle.certificate.specs.Content.{compare_atoms};
+ghost use Rattle.plain_list.specs.Texts.{compare_texts, rises};
 ghost use Rattle.certificate.specs.Reading.{follows};
 
 use crate::model::Row;

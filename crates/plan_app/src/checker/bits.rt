@@ -2,7 +2,7 @@
 
 ghost use Rattle.std.specs.Prelude.{◌≡◌, ◌≤◌, [], ◌∷◌, length, cond, MatchOption, Some, None};
 ghost use Rattle.std.specs.List.{list_all};
-ghost use Rattle.certificate.specs.Names.{list_text};
+ghost use Rattle.plain_list.specs.Texts.{list_text};
 ghost use Rattle.ppddl_model.specs.State.{Name, same_name};
 ghost use Rattle.plan_app.specs.Bits.{bits_where, is_known, bits_of_text, bits_of_texts};
 

@@ -1,7 +1,8 @@
 -- The requirements, or the predicates.
 use Rattle.std.proofs.Common.{◌≡◌, false, true, rules, codes, ap, ◌∙◌}
 use Rattle.token_cursor.specs.Ahead.{is_word}
-use Rattle.token_cursor.specs.Reading.{read_to, ◌>>=◌, one_at}
+use Rattle.plain_list.specs.Results.{◌>>=◌}
+use Rattle.token_cursor.specs.Reading.{read_to, one_at}
 use Rattle.token_cursor.proofs.Results.{Fails-here}
 use Rattle.ppddl_reader.specs.declared.domain.FirstSection.TheVariants as first
 use Rattle.token_cursor.specs.Sequences.{keyword}

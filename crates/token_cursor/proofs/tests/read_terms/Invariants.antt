@@ -1,6 +1,7 @@
 use Rattle.std.proofs.Common.{◌≡◌, ◌≤◌, List, ◌++◌, Result}
 use Rattle.token_cursor.specs.Ahead.{Ahead, size}
-use Rattle.token_cursor.specs.Reading.{Fault, ◌>>=◌, read_to, rest_at, many}
+use Rattle.plain_list.specs.Results.{◌>>=◌}
+use Rattle.token_cursor.specs.Reading.{Fault, read_to, rest_at, many}
 use Rattle.token_cursor.specs.Examples.{term}
 use Rattle.token_cursor.proofs.tests.read_terms.Given as goal
 

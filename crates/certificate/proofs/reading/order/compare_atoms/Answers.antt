@@ -1,6 +1,7 @@
 use Rattle.std.proofs.Common.{◌≡◌, ◌∙◌, ◌<◌, Equal, true, length, sym, arith}
 use Rattle.std.specs.Ordering.{is_ne}
-use Rattle.certificate.specs.Content.{compare_texts, compare_atoms}
+use Rattle.certificate.specs.Content.{compare_atoms}
+use Rattle.plain_list.specs.Texts.{compare_texts}
 use Rattle.certificate.proofs.Rising.{compare_on, compare_first, compare_lengths, is_level}
 use Rattle.certificate.proofs.reading.order.compare_atoms.Goals as goal
 

@@ -1,5 +1,5 @@
 use Rattle.std.proofs.Common.{◌≡◌, ◌∙◌, true, false, is_ge, sym}
-use Rattle.certificate.specs.Content.{compare_texts}
+use Rattle.plain_list.specs.Texts.{compare_texts}
 use Rattle.certificate.proofs.Rising.{rises_start, rises_on, rises_no_more, rises_to_end}
 use Rattle.certificate.proofs.reading.order.rises.Goals as goal
 

@@ -1,5 +1,5 @@
 use Rattle.std.proofs.Common.{◌≡◌, drop}
-use Rattle.certificate.specs.Content.{compare_texts, rises, rises_behind}
+use Rattle.plain_list.specs.Texts.{compare_texts, rises, rises_behind}
 use Rattle.certificate.proofs.reading.order.rises.Given as goal
 
 abbrev pub invariant-loop-atom : goal.invariant-loop-atom
