@@ -3,6 +3,7 @@ pub mod Spelling
 pub mod Content
 pub mod Decoding
 pub mod Reading
+pub mod Refusals
 pub mod Answers
 pub mod Examples
 pub mod Laws

@@ -3,6 +3,7 @@
 ghost use Rattle.std.specs.Prelude.{◌≡◌};
 ghost use Rattle.certificate.specs.declared.refusal.CertRefusal.TheVariants.{Memory};
 ghost use Rattle.certificate.specs.declared.refusal.WriteRefusal.TheVariants as unwritten;
+ghost use Rattle.certificate.specs.Refusals.{number_of, line_of};
 
 use std::alloc::{AllocError, AllocFailed};
 use thiserror::Error;
@@ -25,6 +26,33 @@ pub enum CertRefusal {
     /// Want of memory.
     #[error("Memory")]
     Memory,
+}
+
+impl CertRefusal {
+    /// The number of the refusal, from 30 to 33. Want of memory has none.
+    pub fn number(self) -> Option<u8>
+        ensures { result ≡ number_of self }
+    {
+        match self {
+            CertRefusal::Syntax { .. } => Some(30),
+            CertRefusal::Order { .. } => Some(31),
+            CertRefusal::Count { .. } => Some(32),
+            CertRefusal::TooLong => Some(33),
+            CertRefusal::Memory => None,
+        }
+    }
+
+    /// The line that is wrong, counted from 1; 0 where none is.
+    pub fn line(self) -> u32
+        ensures { result ≡ line_of self }
+    {
+        match self {
+            CertRefusal::Syntax { line }
+            | CertRefusal::Order { line }
+            | CertRefusal::Count { line } => line,
+            CertRefusal::TooLong | CertRefusal::Memory => 0,
+        }
+    }
 }
 
 impl From<AllocError> for CertRefusal {
