@@ -1,4 +1,4 @@
-use Rattle.std.proofs.Common.{rules, ◌≡◌, ◌<◌, length, arith}
+use Rattle.std.proofs.Common.{rules}
 use Rattle.shelf_io.proofs.Within.{all_of}
 use Rattle.shelf_io.proofs.adapters.folder.read_within.Goals as goal
 
