@@ -268,18 +268,18 @@ module _ (task : Task) (thin : IsThinTask task) (packed : Packed) (packs : Packs
           lower_follows : LowerFollows packed table bits r.lower
           lower_follows st there =
               let a = AllZip-right (IsStepOf packed.names) task.domain.actions packed.steps packs.steps st there in
-              let here = low_to_own task thin packed packs a.0 a.1 st a.2 penalty lows s (lows s) (balance.low_step s (sole_instance a.0) off (chosen s a.0 a.1)) in
+              let here = low_to_own task thin packed packs a.0 a.1 st a.2 penalty lows s (lows s) ((balance s).low_follows.within_step (sole_instance a.0) off (chosen s a.0 a.1)) in
               omega (arith, here, low_cost a.0 a.1 st a.2, ap (λ n. n * st.chance.den) low_is)
 
           upper_follows : (does : Act) → r.act ≡ does → UpperFollows packed table penalty bits r.upper does
-          upper_follows GiveUp e = subst (λ n. penalty ≤ n) (high_is off) (balance.high_quit s off (act_is ∙ ap (instance_of task) e))
+          upper_follows GiveUp e = subst (λ n. penalty ≤ n) (high_is off) ((balance s).high_follows.covers_quit off (act_is ∙ ap (instance_of task) e))
           upper_follows Goal e = absurd (other off e)
           upper_follows (Do name) e =
               let i = named_there name e in
               let taken = something_named (instance_named task name) (step_named packed.steps name) (named_corresponds name) i.0 i.1 in
               let there : expected (λ (o : Outcome State). o.cost + highs o.next) (step task (charges penalty) (sole_instance taken.2.action) s) ≤ highs s * step_den task =
               subst (λ j. expected (λ (o : Outcome State). o.cost + highs o.next) (step task (charges penalty) j s) ≤ highs s * step_den task) (sym taken.2.is)
-              (balance.high_step s i.0 off (act_is ∙ ap (instance_of task) e ∙ i.1)) in
+              ((balance s).high_follows.covers_step i.0 off (act_is ∙ ap (instance_of task) e ∙ i.1)) in
               let here = high_to_own task thin packed packs taken.2.action taken.2.inside taken.0 taken.2.of penalty highs s (highs s) there in
               let follows : UpperFollowsStep packed table penalty bits r.upper (Some taken.0) =
               omega (arith, here, high_cost taken.2.action taken.2.inside taken.0 taken.2.of off, ap (λ n. n * taken.0.chance.den) (high_is off)) in
@@ -292,7 +292,7 @@ module _ (task : Task) (thin : IsThinTask task) (packed : Packed) (packs : Packs
               | true ↦ λ on. marked (goal_is ∙ on)
               | false ↦ λ apart.
                   let off : is_goal task s ≡ false = goal_is ∙ apart in
-                  (subst (λ n. n ≤ penalty) low_is (balance.low_quit s off), lower_follows off, upper_follows off r.act refl)
+                  (subst (λ n. n ≤ penalty) low_is ((balance s).low_follows.within_quit off), lower_follows off, upper_follows off r.act refl)
             ] refl
 
     module _ (each : (r : Row) → Contains rows r → IsRowBalanced packed table penalty (row_bits packed.names r) r) where
@@ -307,21 +307,26 @@ module _ (task : Task) (thin : IsThinTask task) (packed : Packed) (packs : Packs
       no_act s i none is = let nothing : None ≡ Some i = sym (ap (λ (o : Option Row). elim o [ None ↦ None | Some q ↦ instance_of task q.act ]) none) ∙ is in cc
 
       pub balance_from_rows : IsBalanced (process task (charges penalty)) lows highs (act task rows)
-      balance_from_rows = record {
-        goal_low = by_rows (λ s. is_goal task s ≡ true → lows s ≡ 0) (λ s none on. no_low s none) (λ r inside on. low_is r inside ∙ (at_goal r inside (each r inside) on).0);
-        goal_high = λ s on. ap (λ b. cond b 0 (elim (row_at task rows s) [ None ↦ penalty | Some q ↦ q.upper ])) on;
-        low_quit = by_rows (λ s. is_goal task s ≡ false → lows s ≤ penalty) (λ s none off. omega (arith, no_low s none))
-            (λ r inside off. subst (λ n. n ≤ penalty) (sym (low_is r inside)) (elsewhere r inside (each r inside) off).0);
-        low_step = λ s i.
-            by_rows (λ t. is_goal task t ≡ false → Contains (filter (is_open task t) (instances task)) i
-            → lows t * step_den task ≤ expected (λ (o : Outcome State). o.cost + lows o.next) (step task (charges penalty) i t))
-            (λ t none off there. omega (arith, ap (λ n. n * step_den task) (no_low t none))) (λ r inside off there. low_step_at r inside (each r inside) off i there) s;
-        high_quit = by_rows (λ s. is_goal task s ≡ false → act task rows s ≡ None → penalty ≤ highs s) (λ s none off quit. omega (arith, no_high s none off))
-            (λ r inside off quit. high_quit_at r inside (each r inside) off quit);
-        high_open = λ s i.
-            by_rows (λ t. is_goal task t ≡ false → act task rows t ≡ Some i → Contains (filter (is_open task t) (instances task)) i) (λ t none off is. absurd (no_act t i none is))
-            (λ r inside off is. high_open_at r inside (each r inside) off i is) s;
-        high_step = λ s i.
-            by_rows (λ t. is_goal task t ≡ false → act task rows t ≡ Some i → expected (λ (o : Outcome State). o.cost + highs o.next) (step task (charges penalty) i t) ≤ highs t * step_den task)
-            (λ t none off is. absurd (no_act t i none is)) (λ r inside off is. high_step_at r inside (each r inside) off i is) s;
+      balance_from_rows s = record {
+        low_follows = record {
+          at_goal = by_rows (λ t. is_goal task t ≡ true → lows t ≡ 0) (λ t none on. no_low t none)
+              (λ r inside on. low_is r inside ∙ (at_goal r inside (each r inside) on).0) s;
+          within_quit = by_rows (λ t. is_goal task t ≡ false → lows t ≤ penalty) (λ t none off. omega (arith, no_low t none))
+              (λ r inside off. subst (λ n. n ≤ penalty) (sym (low_is r inside)) (elsewhere r inside (each r inside) off).0) s;
+          within_step = λ i.
+              by_rows (λ t. is_goal task t ≡ false → Contains (filter (is_open task t) (instances task)) i
+              → lows t * step_den task ≤ expected (λ (o : Outcome State). o.cost + lows o.next) (step task (charges penalty) i t))
+              (λ t none off there. omega (arith, ap (λ n. n * step_den task) (no_low t none))) (λ r inside off there. low_step_at r inside (each r inside) off i there) s;
+        };
+        high_at_goal = λ on. ap (λ b. cond b 0 (elim (row_at task rows s) [ None ↦ penalty | Some q ↦ q.upper ])) on;
+        high_follows = record {
+          covers_quit = by_rows (λ t. is_goal task t ≡ false → act task rows t ≡ None → penalty ≤ highs t) (λ t none off quit. omega (arith, no_high t none off))
+              (λ r inside off quit. high_quit_at r inside (each r inside) off quit) s;
+          is_open = λ i.
+              by_rows (λ t. is_goal task t ≡ false → act task rows t ≡ Some i → Contains (filter (is_open task t) (instances task)) i) (λ t none off is. absurd (no_act t i none is))
+              (λ r inside off is. high_open_at r inside (each r inside) off i is) s;
+          covers_step = λ i.
+              by_rows (λ t. is_goal task t ≡ false → act task rows t ≡ Some i → expected (λ (o : Outcome State). o.cost + highs o.next) (step task (charges penalty) i t) ≤ highs t * step_den task)
+              (λ t none off is. absurd (no_act t i none is)) (λ r inside off is. high_step_at r inside (each r inside) off i is) s;
+        };
       }

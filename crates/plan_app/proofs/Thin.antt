@@ -20,7 +20,7 @@ use Rattle.ppddl_model.specs.declared.tree.InitItem.{InitItem}
 use Rattle.ppddl_model.specs.declared.tree.InitItem.TheVariants as item
 use Rattle.ppddl_model.specs.declared.tree.Task.{Task}
 use Rattle.weighted.specs.Mean.{total, products}
-use Rattle.decision_process.specs.Enclosing.{Start, at_starts}
+use Rattle.decision_process.specs.Process.{Start, at_starts}
 use Rattle.ppddl_model.specs.State.{Name, GroundAtom, same_atom, State, no_atoms, has, with_atom, with_atoms}
 use Rattle.ppddl_model.specs.Objects.{World, ground_atom, bindings}
 use Rattle.ppddl_model.specs.Truth.{holds}

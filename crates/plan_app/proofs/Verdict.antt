@@ -2,10 +2,10 @@
 use Rattle.std.proofs.Common.{◌≡◌, ℕ, ◌+◌, ◌-◌, Bool, true, false, ◌&&◌, ◌||◌, List, [], ◌∷◌, map, refl, sym, ap, subst, ◌∙◌, inl, inr, arith}
 use Rattle.std.specs.Prelude.{Contains}
 use Rattle.std.specs.List.{list_any, list_all}
-use Rattle.std.proofs.Math.Nat.{div-one}
+use Rattle.std.proofs.Math.Nat.{div-one, mod-one}
 use Rattle.plain_list.proofs.Members.{Contains-first, Contains-later, Contains-cons_cases, Contains-nil, Contains-map}
-use Rattle.decision_process.specs.Enclosing.{at_starts}
-use Rattle.decision_process.specs.Rounded.{floor, ceiling}
+use Rattle.decision_process.specs.Process.{at_starts}
+use Rattle.decision_process.specs.Backup.{floor, ceiling}
 use Rattle.certificate.specs.declared.model.Row.{Row}
 use Rattle.plain_list.specs.Texts.{list_text}
 use Rattle.certificate.specs.Content.{Content}
@@ -42,8 +42,8 @@ either_way : (a b : Bool) → b ≡ true → (a || b) ≡ true
 either_way true b e = refl
 either_way false b e = e
 
-nothing_more : (n : ℕ) → n + (1 - 1) ≡ n
-nothing_more n = omega arith
+ceiling_of_one : (n : ℕ) → ceiling n 1 ≡ n
+ceiling_of_one n = omega (arith, div-one n, mod-one n)
 
 module _ {X : Type 0} (p : X → Bool) where
   each_passes : (xs : List X) → list_all p xs ≡ true → (x : X) → Contains xs x → p x ≡ true
@@ -161,7 +161,7 @@ module _ (task : Task) (thin : IsThinTask task) (packed : Packed) (packs : Packs
       ceiling_is : ceiling (at_starts (high task (charges penalty) c.rows) (starts task)) (start_den task) ≡ upper_at packed table penalty packed.start
       ceiling_is =
           ap (λ n. ceiling n (start_den task)) first_high ∙ ap (ceiling (upper_at packed table penalty packed.start)) (start_den-thin task thin)
-          ∙ div-one (upper_at packed table penalty packed.start + (1 - 1)) ∙ nothing_more (upper_at packed table penalty packed.start)
+          ∙ ceiling_of_one (upper_at packed table penalty packed.start)
 
       pub by_table : IsBalancedFor task (charges penalty) c → IsBalancedBy packed table penalty c
       by_table balanced = (
