@@ -1,18 +1,18 @@
 -- Certificates over any process: what their rows say of every state, and when a certificate is balanced.
 -- A text's rows become these rows where the layer above knows what its atoms and names stand for. So a certificate of a task and one
 -- of a ground problem are two readings of one definition.
---     RowAct A               give up, end at a goal, or take an action
---     Row S A                a state with a lower and an upper value, and what to do there
---     Certificate S A        a penalty, rows, and an interval about the expected cost from the starts
---     HasDistinctStates rows  no state has two rows
---     row_at same rows s     the first row of s, if any; `same` is the test of equality
---     low same rows s        the row's lower value, 0 without a row
---     high p same rows s     0 at a goal, else the row's upper value, the penalty without a row
---     act same rows s        the row's action; None, giving up, at a row without action and without a row
---     IsMarked p row         at a goal both values are 0 and the act is to end there; elsewhere it is not
+--     RowAct A                 give up, end at a goal, or take an action
+--     Row S A                  a state with a lower and an upper value, and what to do there
+--     Certificate S A          a penalty, rows, and an interval about the expected cost from the starts
+--     HasDistinctStates rows   no state has two rows
+--     row_at same rows s       the first row of s, if any; `same` is the test of equality
+--     low same rows s          the row's lower value, 0 without a row
+--     high p same rows s       0 at a goal, else the row's upper value, the penalty without a row
+--     act same rows s          the row's action; None, giving up, at a row without action and without a row
+--     IsMarked p row           at a goal both values are 0 and the act is to end there; elsewhere it is not
 --     IsBalancedCertificate p same starts start_den c
---                            the penalty is that of the process; no state has two rows; goals are marked as such; the readings of all
---                            states are balanced; the interval is that of the starts
+--                              the penalty is that of the process; no state has two rows; goals are marked as such; the readings of
+--                              all states are balanced; the interval is that of the starts
 use Rattle.std.specs.Prelude.{◌≡◌, ◌≢◌, ℕ, Bool, true, false, cond, AllPairs, List, [], ◌∷◌, Option, Some, None, Contains}
 use Rattle.decision_process.specs.Process.{Process, Start}
 use Rattle.decision_process.specs.Balanced.{IsBalanced, IsInterval}
