@@ -16,7 +16,7 @@ use Rattle.ppddl_model.specs.declared.tree.Param.{Param}
 use Rattle.ppddl_model.specs.declared.tree.Task.{Task}
 use Rattle.ppddl_model.specs.State.{Name, same_name, State, with_atom, same_state}
 use Rattle.ppddl_model.specs.Objects.{bound}
-use Rattle.ppddl_model.specs.Steps.{Instance, instances, is_open, is_goal, step, step_den, process}
+use Rattle.ppddl_model.specs.Steps.{Instance, instances, open_instances, is_goal, step, step_den, process}
 use Rattle.ppddl_model.proofs.States.{same_state-Decides}
 use Rattle.ppddl_reader.specs.ThinTask.{IsThinTask}
 use Rattle.plan_app.specs.declared.checker.packed.Packed.{Packed}
@@ -107,7 +107,7 @@ module _ (task : Task) (thin : IsThinTask task) (packed : Packed) (packs : Packs
   something_named (Some j) None both i e = absurd both
   something_named (Some j) (Some st) both i e = let same : j ≡ i = cc in (st, refl, record { action = both.0; inside = both.1; is = both.2 ∙ same; of = both.3 })
 
-  chosen : (s : State) (a : Action) → Contains task.domain.actions a → Contains (filter (is_open task s) (instances task)) (sole_instance a)
+  chosen : (s : State) (a : Action) → Contains task.domain.actions a → Contains (open_instances task s) (sole_instance a)
   chosen s a inside =
       subst (λ l. Contains l (sole_instance a)) (sym (choices-thin task thin s ∙ instances-thin task thin)) (Contains-map sole_instance task.domain.actions a inside)
 
@@ -220,7 +220,7 @@ module _ (task : Task) (thin : IsThinTask task) (packed : Packed) (packs : Packs
           elsewhere : (r.lower ≤ penalty) × LowerFollows packed table bits r.lower × UpperFollows packed table penalty bits r.upper r.act
           elsewhere = when_false _ _ (sym goal_is ∙ off) balanced
 
-          low_step_at : (i : Instance) → Contains (filter (is_open task s) (instances task)) i
+          low_step_at : (i : Instance) → Contains (open_instances task s) i
               → lows s * step_den task ≤ expected (λ (o : Outcome State). o.cost + lows o.next) (step task (charges penalty) i s)
           low_step_at i chosen_there =
               let a = action_of task thin i (subst (λ l. Contains l i) (choices-thin task thin s) chosen_there) in
@@ -237,8 +237,8 @@ module _ (task : Task) (thin : IsThinTask task) (packed : Packed) (packs : Packs
             taken : (st : Step) × IsTaken i st × (backup st r.upper (upper_at packed table penalty (after st bits)) ≤ r.upper * st.chance.den)
             taken = takes_by r.act elsewhere.2 i (sym act_is ∙ is)
 
-            high_open_at : Contains (filter (is_open task s) (instances task)) i
-            high_open_at = subst (Contains (filter (is_open task s) (instances task))) taken.1.is (chosen s taken.1.action taken.1.inside)
+            high_open_at : Contains (open_instances task s) i
+            high_open_at = subst (Contains (open_instances task s)) taken.1.is (chosen s taken.1.action taken.1.inside)
 
             high_step_at : expected (λ (o : Outcome State). o.cost + highs o.next) (step task (charges penalty) i s) ≤ highs s * step_den task
             high_step_at =
@@ -314,7 +314,7 @@ module _ (task : Task) (thin : IsThinTask task) (packed : Packed) (packs : Packs
           within_quit = by_rows (λ t. is_goal task t ≡ false → lows t ≤ penalty) (λ t none off. omega (arith, no_low t none))
               (λ r inside off. subst (λ n. n ≤ penalty) (sym (low_is r inside)) (elsewhere r inside (each r inside) off).0) s;
           within_step = λ i.
-              by_rows (λ t. is_goal task t ≡ false → Contains (filter (is_open task t) (instances task)) i
+              by_rows (λ t. is_goal task t ≡ false → Contains (open_instances task t) i
               → lows t * step_den task ≤ expected (λ (o : Outcome State). o.cost + lows o.next) (step task (charges penalty) i t))
               (λ t none off there. omega (arith, ap (λ n. n * step_den task) (no_low t none))) (λ r inside off there. low_step_at r inside (each r inside) off i there) s;
         };
@@ -323,7 +323,7 @@ module _ (task : Task) (thin : IsThinTask task) (packed : Packed) (packs : Packs
           covers_quit = by_rows (λ t. is_goal task t ≡ false → act task rows t ≡ None → penalty ≤ highs t) (λ t none off quit. omega (arith, no_high t none off))
               (λ r inside off quit. high_quit_at r inside (each r inside) off quit) s;
           is_open = λ i.
-              by_rows (λ t. is_goal task t ≡ false → act task rows t ≡ Some i → Contains (filter (is_open task t) (instances task)) i) (λ t none off is. absurd (no_act t i none is))
+              by_rows (λ t. is_goal task t ≡ false → act task rows t ≡ Some i → Contains (open_instances task t) i) (λ t none off is. absurd (no_act t i none is))
               (λ r inside off is. high_open_at r inside (each r inside) off i is) s;
           covers_step = λ i.
               by_rows (λ t. is_goal task t ≡ false → act task rows t ≡ Some i → expected (λ (o : Outcome State). o.cost + highs o.next) (step task (charges penalty) i t) ≤ highs t * step_den task)

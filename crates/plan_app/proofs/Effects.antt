@@ -2,7 +2,7 @@
 use Rattle.std.proofs.Common.{◌≡◌, ℕ, ◌+◌, ◌-◌, ◌*◌, ◌/◌, ◌^◌, true, List, [], ◌∷◌, ◌++◌, Some, refl}
 use Rattle.exact_fraction.specs.declared.Fraction.{Fraction}
 use Rattle.ppddl_model.specs.declared.tree.Effect.{Effect, Row_of-Effect, end_of-Effect, more_of-Effect, Row_of-Branch, end_of-Branch, more_of-Branch}
-use Rattle.ppddl_model.specs.declared.tree.Effect.TheVariants.{Add, Delete, Both', Forall', When', Chance', Cost}
+use Rattle.ppddl_model.specs.declared.tree.Effect.TheVariants.{Both', Forall', When', Chance'}
 use Rattle.ppddl_model.specs.declared.tree.Effect.TheBlock.{shape-the_row-Effect-0, hidden-the_row-Effect-0, shape-the_row-Branch-2, hidden-the_row-Branch-2}
 use Rattle.ppddl_model.specs.declared.tree.Condition.TheVariants as condition
 use Rattle.ppddl_model.specs.declared.tree.Condition.TheBlock.{shape-the_row-Condition-0, hidden-the_row-Condition-0, hidden-the_row-Condition-1}
@@ -10,6 +10,7 @@ use denote.Hole.Carrier.{hidden}
 use Rattle.ppddl_model.specs.State.{Name, State, no_atoms, with_atom}
 use Rattle.ppddl_model.specs.Objects.{World, Binding}
 use Rattle.ppddl_model.specs.Truth.{holds}
+use Rattle.ppddl_model.specs.Functions.{are_valued}
 use Rattle.ppddl_model.specs.Denominator.{denominators, draws}
 use Rattle.ppddl_model.specs.Costs.{decreases}
 use Rattle.ppddl_model.specs.Outcomes.{Entry, joined, weighed, nothing, outcomes}
@@ -19,13 +20,11 @@ use Rattle.plan_app.specs.Packed.{thin_effect, atom_of}
 -- the chances in an effect
 abbrev mutual
   pub chances : Effect → List Fraction
-  chances (Add a) = []
-  chances (Delete a) = []
   chances (Both' shape es) = chances_each es
   chances (Forall' params u (more_of-Effect e end_of-Effect)) = chances e
   chances (When' c u (more_of-Effect e end_of-Effect)) = chances e
   chances (Chance' shape branches) = chances_branches branches
-  chances (Cost v) = []
+  chances _ = []
 
   chances_each : {n : _} → Row_of-Effect n → List Fraction
   chances_each end_of-Effect = []
@@ -66,6 +65,10 @@ module _ (cost : ℕ) (chance : Fraction) (name : Name) where
     pub literals-thin : (b : Binding) → literals w (thin_effect cost chance (atom_of name)) b ≡ (name ∷ []) ∷ []
     unfolding shape-the_row-Effect-0 hidden-the_row-Effect-0 shape-the_row-Branch-2 hidden-the_row-Branch-2 hidden
     literals-thin b = refl
+
+    pub are_valued-thin : (b : Binding) → are_valued w (thin_effect cost chance (atom_of name)) b ≡ true
+    unfolding shape-the_row-Effect-0 hidden-the_row-Effect-0 shape-the_row-Branch-2 hidden-the_row-Branch-2 hidden
+    are_valued-thin b = refl
 
     pub outcomes-thin : (den : ℕ) (b : Binding) (s : State) → outcomes w den (thin_effect cost chance (atom_of name)) b s ≡ entry_with den ∷ entry_without den ∷ []
     unfolding shape-the_row-Effect-0 hidden-the_row-Effect-0 shape-the_row-Branch-2 hidden-the_row-Branch-2 hidden

@@ -4,6 +4,7 @@ use Rattle.std.specs.Prelude.{Contains, filter, All}
 use Rattle.std.specs.Int.{◌∣◌}
 use Rattle.std.specs.List.{flat_map, list_any, AllZip}
 use Rattle.std.proofs.Math.Nat.{div-mul_cancel, pow-zero}
+use Rattle.std.proofs.lemmas.Bool.{and_from}
 use Rattle.std.proofs.lemmas.List.{append-nil}
 use Rattle.std.proofs.lemmas.List.Elements.{All-nil, All-cons, All-append, All-contains, Contains-append_left}
 use Rattle.std.proofs.lemmas.List.Folds.{flat_map-map}
@@ -24,16 +25,17 @@ use Rattle.decision_process.specs.Process.{Start, at_starts}
 use Rattle.ppddl_model.specs.State.{Name, GroundAtom, same_atom, State, no_atoms, has, with_atom, with_atoms}
 use Rattle.ppddl_model.specs.Objects.{World, ground_atom, bindings}
 use Rattle.ppddl_model.specs.Truth.{holds}
+use Rattle.ppddl_model.specs.Functions.{are_valued}
 use Rattle.ppddl_model.specs.Denominator.{denominators, item_denominators, common_denominator, draws, most_draws}
 use Rattle.ppddl_model.specs.Outcomes.{Entry, nothing, joined, products_with, products_of}
 use Rattle.ppddl_model.specs.Costs.{decreases}
-use Rattle.ppddl_model.specs.Steps.{Instance, world, instances, is_open, base_cost, true_at_first, item_outcomes, item_draws, starts, start_den}
+use Rattle.ppddl_model.specs.Steps.{Instance, world, instances, is_open, open_instances, base_cost, true_at_first, item_outcomes, item_draws, starts, start_den}
 use Rattle.ppddl_model.specs.Changing.{literals, is_kept, is_not_false, known, kept_instances, chance_atoms, fact_atoms, facts, changing_atoms, changing_predicates}
 use Rattle.ppddl_model.proofs.States.{has-with_atom, has-with_atoms, has-union, same_from_has}
 use Rattle.ppddl_reader.specs.ThinTask.{IsThinTask}
 use Rattle.plan_app.specs.Packed.{IsThin, thin_effect, atom_of, MakesTrue}
 use Rattle.plan_app.proofs.Lists.{filter_all, flat_map_nothing, flat_map_singles, flat_map-AllZip, Contains-flat_map, All-flat_map, Contains-map_cases}
-use Rattle.plan_app.proofs.Effects.{denominators-thin, decreases-thin, draws-thin, literals-thin, holds-nothing, known-nothing}
+use Rattle.plan_app.proofs.Effects.{denominators-thin, decreases-thin, draws-thin, literals-thin, are_valued-thin, holds-nothing, known-nothing}
 use Rattle.plan_app.proofs.Backups.{times_one, times_same}
 
 -- the one instance of an action without parameters
@@ -91,23 +93,28 @@ module _ (task : Task) (thin : IsThinTask task) where
   pub action_of : (i : Instance) → Contains (instances task) i → (a : Action) × Contains task.domain.actions a × (sole_instance a ≡ i)
   action_of i inside = Contains-map_cases sole_instance task.domain.actions i (subst (λ l. Contains l i) instances-thin inside)
 
-  always_open : (s : State) (i : Instance) → Contains (instances task) i → is_open task s i ≡ true
+  always_valued : (a : Action) → Contains task.domain.actions a → are_valued (world task) a.effect [] ≡ true
+  always_valued a inside = let p = part a inside in ap (λ e. are_valued (world task) e []) p.effect ∙ are_valued-thin p.cost p.chance p.name (world task) []
+
+  always_open : (s : State) (i : Instance) → Contains (instances task) i → is_open task i s ≡ true
   always_open s i inside =
       let found = action_of i inside in
-      let open_there : is_open task s (sole_instance found.0) ≡ true = ap (λ c. holds (world task) c [] s) (thin.actions found.0 found.1).condition ∙ holds-nothing (world task) [] s in
-      subst (λ j. is_open task s j ≡ true) found.2 open_there
+      let holds_there = ap (λ c. holds (world task) c [] s) (thin.actions found.0 found.1).condition ∙ holds-nothing (world task) [] s in
+      let open_there : is_open task (sole_instance found.0) s ≡ true = and_from _ _ holds_there (always_valued found.0 found.1) in
+      subst (λ j. is_open task j s ≡ true) found.2 open_there
 
   -- every instance is open
-  pub choices-thin : (s : State) → filter (is_open task s) (instances task) ≡ instances task
-  choices-thin s = filter_all (is_open task s) (instances task) (always_open s)
+  pub choices-thin : (s : State) → open_instances task s ≡ instances task
+  choices-thin s = filter_all (λ (i : Instance). is_open task i s) (instances task) (always_open s)
 
   always_kept : (i : Instance) → Contains (instances task) i → is_kept task i ≡ true
   always_kept i inside =
       let found = action_of i inside in
       let first_state = with_atoms no_atoms (facts task) in
-      let kept_there : is_kept task (sole_instance found.0) ≡ true =
+      let known_there =
       ap (λ c. is_not_false (known (world task) (changing_predicates task) first_state c [])) (thin.actions found.0 found.1).condition
       ∙ ap is_not_false (known-nothing (world task) (changing_predicates task) first_state []) in
+      let kept_there : is_kept task (sole_instance found.0) ≡ true = and_from _ _ known_there (always_valued found.0 found.1) in
       subst (λ j. is_kept task j ≡ true) found.2 kept_there
 
   -- the changing atoms are those that actions make true

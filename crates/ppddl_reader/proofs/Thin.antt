@@ -101,6 +101,7 @@ predicate_plain f p (by.predicate names) = refl
 record IsThinDomain (d : Domain) : Type 0 where
   types : d.types ≡ []
   constants : d.constants ≡ []
+  functions : d.functions ≡ []
   plain : ArePlain d.predicates
   predicates_few : length d.predicates ≤ 64
   actions_few : length d.actions ≤ 64
@@ -112,6 +113,7 @@ declared_thin n f ps gs done (by.predicates {fs = fs} each few names) acts =
     record {
       types = refl;
       constants = refl;
+      functions = refl;
       plain = plain;
       predicates_few = few;
       actions_few = acts.few;
@@ -132,7 +134,9 @@ text_thin a d f p thin (by.problem {n = n} {items = items} {x = x} {r = r} headi
     record {
       types = thin.types;
       constants = thin.constants;
+      functions = thin.functions;
       objects = refl;
+      values = refl;
       predicates_few = thin.predicates_few;
       actions_few = thin.actions_few;
       actions = thin.actions;

@@ -179,7 +179,7 @@ unfoldable pub first_section : Form → Result (Option (List PredicateDecl)) Fau
 first_section = in_group (one_then first_flag first_behind)
 
 abbrev pub domain_of : Name → List PredicateDecl → List Action → Domain
-domain_of n ps done = record { name = n.text; types = []; constants = []; predicates = ps; actions = done }
+domain_of n ps done = record { name = n.text; types = []; constants = []; predicates = ps; functions = []; actions = done }
 
 -- the actions, which are the rest of the domain n
 unfoldable pub domain_with : Name → List PredicateDecl → Forms → Place → Result Domain Fault
@@ -253,6 +253,7 @@ problem_of n items goal reward = record {
   line = n.place.line;
   objects = [];
   init = items;
+  values = [];
   goal = goal;
   goal_reward = Some reward;
 }

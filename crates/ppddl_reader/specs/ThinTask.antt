@@ -34,7 +34,9 @@ pub record IsThinAction (predicates : List PredicateDecl) (action : Action) : Ty
 pub record IsThinTask (task : Task) : Type 0 where
   pub types : task.domain.types ≡ []
   pub constants : task.domain.constants ≡ []
+  pub functions : task.domain.functions ≡ []
   pub objects : task.problem.objects ≡ []
+  pub values : task.problem.values ≡ []
   pub predicates_few : length task.domain.predicates ≤ 64
   pub actions_few : length task.domain.actions ≤ 64
   pub actions : (a : Action) → Contains task.domain.actions a → IsThinAction task.domain.predicates a

@@ -229,6 +229,7 @@ fn read_domain_with(
         types: List::from_vec(Vec::new(alloc)),
         constants: List::from_vec(Vec::new(alloc)),
         predicates,
+        functions: List::from_vec(Vec::new(alloc)),
         actions,
     })
 }

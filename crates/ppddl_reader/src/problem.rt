@@ -155,6 +155,7 @@ fn read_problem_end(
         line: name.place.line,
         objects: List::from_vec(Vec::new(alloc)),
         init,
+        values: List::from_vec(Vec::new(alloc)),
         goal,
         goal_reward: Some(reward),
     })

@@ -84,6 +84,7 @@ fn coin(alloc: Global) -> Result<Task, AllocError> {
         types: List::from_vec(Vec::new(alloc)),
         constants: List::from_vec(Vec::new(alloc)),
         predicates: List::from_vec(vec![in alloc; predicate]?),
+        functions: List::from_vec(Vec::new(alloc)),
         actions: List::from_vec(vec![in alloc; flip(alloc)?]?),
     };
     let problem = Problem {
@@ -92,6 +93,7 @@ fn coin(alloc: Global) -> Result<Task, AllocError> {
         line: 6,
         objects: List::from_vec(Vec::new(alloc)),
         init: List::from_vec(Vec::new(alloc)),
+        values: List::from_vec(Vec::new(alloc)),
         goal: Condition::Atom(done(alloc)?),
         goal_reward: Some(10_000_000),
     };

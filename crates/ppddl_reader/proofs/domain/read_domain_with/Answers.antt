@@ -17,5 +17,6 @@ returns-clause-gives c =
     let ps = c.args.predicates in
     let types : c.from_vec.result ≡ [] = search rules in
     let constants : c.from_vec-2.result ≡ [] = search rules in
+    let functions : c.from_vec-3.result ≡ [] = search rules in
     let all = rw c.as_slice.ensures at c.in_ok-actions.ensures.gives in
-    rw (types, constants) (giving_gives (domain_of c.args.name ps) (listed (action ps) []) c.args.cursor.now c.in_ok-actions.actions c.read_actions.new.cursor all)
+    rw (types, constants, functions) (giving_gives (domain_of c.args.name ps) (listed (action ps) []) c.args.cursor.now c.in_ok-actions.actions c.read_actions.new.cursor all)

@@ -16,6 +16,7 @@ pub returns-clause-gives : goal.returns-clause-gives
 unfolding problem_end
 returns-clause-gives c =
     let objects : c.from_vec.result ≡ [] = search rules in
+    let values : c.from_vec-2.result ≡ [] = search rules in
     let behind = c.read_reward_section.new.cursor in
     let whole = giving_gives (λ u. problem_of c.args.name c.args.init c.args.goal c.in_ok-reward.reward) metric_and_end behind tt c.read_metric_and_end.new.cursor c.in_ok-read_metric_and_end.ensures.gives in
-    rw objects (then_gives reward_section (λ reward. giving (λ u. problem_of c.args.name c.args.init c.args.goal reward) metric_and_end) c.args.cursor.now c.in_ok-reward.reward behind _ c.in_ok-reward.ensures.gives whole)
+    rw (objects, values) (then_gives reward_section (λ reward. giving (λ u. problem_of c.args.name c.args.init c.args.goal reward) metric_and_end) c.args.cursor.now c.in_ok-reward.reward behind _ c.in_ok-reward.ensures.gives whole)
