@@ -11,7 +11,7 @@ use Rattle.std.specs.Prelude.{ℕ, min, Bool, List, [], ◌∷◌, ◌++◌, map
 use Rattle.std.specs.Option.{option_map}
 use Rattle.std.specs.List.{find, list_all, reduce}
 use Rattle.ppddl_model.specs.declared.tree.Effect.{Effect, Row_of-Effect, end_of-Effect, more_of-Effect, Row_of-Branch, end_of-Branch, more_of-Branch}
-use Rattle.ppddl_model.specs.declared.tree.Effect.TheVariants.{Add, Delete, Both', Forall', When', Chance', Cost, CostOf}
+use Rattle.ppddl_model.specs.declared.tree.Effect.TheVariants.{Both', Forall', When', Chance', CostOf}
 use Rattle.ppddl_model.specs.declared.tree.ValueItem.{ValueItem}
 use Rattle.ppddl_model.specs.State.{Name, same_name, GroundAtom, same_atom}
 use Rattle.ppddl_model.specs.Objects.{World, Binding, ground_atom, bindings}
