@@ -13,7 +13,7 @@ use Rattle.plain_list.proofs.Members.{Contains-first, Contains-later, Contains-c
 use Rattle.plain_list.specs.Texts.{list_text}
 use Rattle.ppddl_model.specs.State.{Name, same_name}
 use Rattle.ppddl_model.proofs.States.{same_name-Decides}
-use Rattle.plan_app.specs.Values.{has_text}
+use Rattle.ppddl_model.specs.Changing.{has_text}
 use Rattle.plan_app.specs.Bits.{bits_where, is_atom_of, is_known, bits_of_text, bits_of_texts}
 
 pub false_from_not : {P : Type 0} (b : Bool) → Decides b P → (P → ⊥) → b ≡ false

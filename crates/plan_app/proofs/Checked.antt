@@ -16,14 +16,14 @@ use Rattle.ppddl_model.specs.declared.tree.Param.{Param}
 use Rattle.ppddl_model.specs.declared.tree.Task.{Task}
 use Rattle.ppddl_model.specs.State.{Name, same_name, State, with_atom, same_state}
 use Rattle.ppddl_model.specs.Objects.{bound}
-use Rattle.ppddl_model.specs.Steps.{Instance, instances, open_instances, is_goal, step, step_den, process}
+use Rattle.ppddl_model.specs.Steps.{Instance, instance_name, instances, open_instances, is_goal, step, step_den, process}
 use Rattle.ppddl_model.proofs.States.{same_state-Decides}
 use Rattle.ppddl_reader.specs.ThinTask.{IsThinTask}
 use Rattle.plan_app.specs.declared.checker.packed.Packed.{Packed}
 use Rattle.plan_app.specs.declared.checker.step.Step.{Step}
 use Rattle.plan_app.specs.declared.checker.table.Table.{Table}
 use Rattle.plan_app.specs.Balanced.{AreDistinct}
-use Rattle.plan_app.specs.Values.{instance_name, first_named, row_state, row_at, instance_named, instance_of, low, high, act}
+use Rattle.plan_app.specs.Values.{first_named, row_state, row_at, instance_named, instance_of, low, high, act}
 use Rattle.plan_app.specs.Bits.{is_atom_of}
 use Rattle.plan_app.specs.Packed.{IsStepOf, Packs, is_reached, backup, after, step_named}
 use Rattle.plan_app.specs.Table.{row_bits, row_with, IsTable, lower_at, upper_at, LowerFollows, UpperFollowsStep, UpperFollows, IsRowBalanced}

@@ -14,7 +14,8 @@ use Rattle.ppddl_model.specs.Functions.{are_valued}
 use Rattle.ppddl_model.specs.Denominator.{denominators, draws}
 use Rattle.ppddl_model.specs.Costs.{decreases}
 use Rattle.ppddl_model.specs.Outcomes.{Entry, joined, weighed, nothing, outcomes}
-use Rattle.ppddl_model.specs.Changing.{literals, known}
+use Rattle.ppddl_model.specs.Known.{known}
+use Rattle.ppddl_model.specs.Changing.{literals}
 use Rattle.plan_app.specs.Packed.{thin_effect, atom_of}
 
 -- the chances in an effect

@@ -10,10 +10,10 @@ use Rattle.std.proofs.lemmas.Nat.{or_comm}
 use Rattle.certificate.specs.declared.model.Row.{Row}
 use Rattle.ppddl_model.specs.declared.tree.Task.{Task}
 use Rattle.ppddl_model.specs.State.{Name, same_name, GroundAtom, same_atom, atom_cmp_total, State, no_atoms, has, with_atom, with_atoms}
-use Rattle.ppddl_model.specs.Changing.{facts, changing_atoms, is_changing, fixed_facts}
+use Rattle.ppddl_model.specs.Changing.{has_text, facts, changing_atoms, is_changing, fixed_facts}
 use Rattle.ppddl_model.proofs.States.{same_name-Decides, same_atom-Decides, has-with_atom, has-with_atoms, same_from_has}
 use Rattle.plain_list.proofs.Members.{Contains-map}
-use Rattle.plan_app.specs.Values.{has_text, row_state}
+use Rattle.plan_app.specs.Values.{row_state}
 use Rattle.plan_app.specs.Bits.{bits_where}
 use Rattle.plan_app.specs.Table.{row_bits}
 use Rattle.plan_app.proofs.Bits.{bits_where-or, bits_where-and, any-bits_where, agree_from_bits, bits_from_agree, bits_where-map, same_name_turned}

@@ -30,7 +30,8 @@ use Rattle.ppddl_model.specs.Denominator.{denominators, item_denominators, commo
 use Rattle.ppddl_model.specs.Outcomes.{Entry, nothing, joined, products_with, products_of}
 use Rattle.ppddl_model.specs.Costs.{decreases}
 use Rattle.ppddl_model.specs.Steps.{Instance, world, instances, is_open, open_instances, base_cost, true_at_first, item_outcomes, item_draws, starts, start_den}
-use Rattle.ppddl_model.specs.Changing.{literals, is_kept, is_not_false, known, kept_instances, chance_atoms, fact_atoms, facts, changing_atoms, changing_predicates}
+use Rattle.ppddl_model.specs.Known.{is_not_false, known}
+use Rattle.ppddl_model.specs.Changing.{literals, is_kept, kept_instances, chance_atoms, fact_atoms, facts, changing_atoms, changing_predicates}
 use Rattle.ppddl_model.proofs.States.{has-with_atom, has-with_atoms, has-union, same_from_has}
 use Rattle.ppddl_reader.specs.ThinTask.{IsThinTask}
 use Rattle.plan_app.specs.Packed.{IsThin, thin_effect, atom_of, MakesTrue}

@@ -7,7 +7,7 @@ use Rattle.std.specs.Prelude.{ℕ, ◌+◌, ◌*◌, Bool, cond, List, [], ◌�
 use Rattle.std.specs.List.{list_any}
 use Rattle.plain_list.specs.Texts.{list_text}
 use Rattle.ppddl_model.specs.State.{Name, same_name}
-use Rattle.plan_app.specs.Values.{has_text}
+use Rattle.ppddl_model.specs.Changing.{has_text}
 
 abbrev pub bits_where : {X : Type 0} → (X → Bool) → List X → ℕ
 bits_where f [] = 0

@@ -1,29 +1,18 @@
 -- Certificate values: what the rows of a certificate say of every state of a task.
---     row_state task r           the state of a row: the changing atoms whose texts stand in it, and the fixed facts
+--     row_state task r           the state of a row's texts
 --     row_at task rows s         the first row of a state, if any
---     instance_name i            the text of an instance, as `(move-car l1 l2)`
 --     instance_named task name   the first instance with this text, if any
 --     low task rows s            the row's lower value, 0 without a row
 --     high task charges rows s   0 at a goal, else the row's upper value, the penalty without a row
 --     act task rows s            the instance that the row's act names; None where it names none or there is no row
-use Rattle.std.specs.Prelude.{ℕ, Bool, true, false, cond, List, [], ◌∷◌, ◌++◌, map, filter, Option, Some, None}
-use Rattle.std.specs.List.{list_any}
+use Rattle.std.specs.Prelude.{ℕ, true, false, cond, List, [], ◌∷◌, Option, Some, None}
 use Rattle.certificate.specs.declared.model.Act.{Act}
 use Rattle.certificate.specs.declared.model.Act.TheVariants.{GiveUp, Goal, Do}
 use Rattle.certificate.specs.declared.model.Row.{Row}
-use Rattle.plain_list.specs.Texts.{list_text}
 use Rattle.ppddl_model.specs.declared.tree.Task.{Task}
-use Rattle.ppddl_model.specs.declared.tree.Param.{Param}
-use Rattle.ppddl_model.specs.State.{same_name, GroundAtom, State, no_atoms, with_atoms, same_state}
-use Rattle.ppddl_model.specs.Objects.{bound}
-use Rattle.ppddl_model.specs.Steps.{Instance, Charges, instances, is_goal}
-use Rattle.ppddl_model.specs.Changing.{changing_atoms, fixed_facts}
-
-abbrev pub has_text : List (List ℕ) → GroundAtom → Bool
-has_text texts a = list_any (same_name (list_text a)) texts
-
-abbrev pub instance_name : Instance → List ℕ
-instance_name i = list_text (i.action.name ∷ map (λ (p : Param). bound i.binding p.name) i.action.params)
+use Rattle.ppddl_model.specs.State.{same_name, State, same_state}
+use Rattle.ppddl_model.specs.Steps.{Instance, instance_name, Charges, instances, is_goal}
+use Rattle.ppddl_model.specs.Changing.{state_of_texts}
 
 abbrev pub first_named : List Instance → List ℕ → Option Instance
 first_named [] name = None
@@ -31,7 +20,7 @@ first_named (i ∷ more) name = elim (same_name (instance_name i) name) [ true �
 
 module _ (task : Task) where
   abbrev pub row_state : Row → State
-  row_state r = with_atoms no_atoms (filter (has_text r.atoms) (changing_atoms task) ++ fixed_facts task)
+  row_state r = state_of_texts task r.atoms
 
   abbrev pub row_at : List Row → State → Option Row
   row_at [] s = None

@@ -15,7 +15,8 @@ use Rattle.ppddl_model.specs.declared.tree.Effect.TheBlock.{hidden-the_row-Effec
 use Rattle.ppddl_model.specs.declared.tree.InitItem.{InitItem}
 use Rattle.ppddl_model.specs.declared.tree.Task.{Task}
 use denote.Hole.Carrier.{hidden}
-use Rattle.ppddl_model.specs.Chances.{SumWithinOne, SumsWithinOne, AllSumWithinOne, item_chances}
+use Rattle.ppddl_model.specs.Draws.{EachDraw, EachItemDraw}
+use Rattle.ppddl_model.specs.Chances.{SumWithinOne, AllSumWithinOne}
 use Rattle.ppddl_reader.specs.ThinTask.{IsThinTask}
 
 -- one probability
@@ -30,13 +31,9 @@ one_within_one chance probability =
     }
 
 effect_within_one : (cost : ℕ) (chance : Fraction) (atom : Atom) → IsProbability chance
-    → SumsWithinOne (effect.Both (effect.Cost cost ∷ effect.Chance (record { chance = chance; effect = effect.Add atom } ∷ []) ∷ []))
+    → EachDraw SumWithinOne (effect.Both (effect.Cost cost ∷ effect.Chance (record { chance = chance; effect = effect.Add atom } ∷ []) ∷ []))
 unfolding hidden-the_row-Effect-0 hidden-the_row-Branch-2 hidden
-effect_within_one cost chance atom probability = (tt, ((one_within_one chance probability, (tt, tt)), tt))
-
--- no probability
-none_within_one : SumWithinOne []
-none_within_one = record { parts = 1; positive = omega arith; common = All-nil _; within = omega arith }
+effect_within_one cost chance atom probability = All-cons SumWithinOne (chance ∷ []) [] (one_within_one chance probability) (All-nil SumWithinOne)
 
 -- every member, one by one
 All-from_members : {X : Type 0} (P : X → Type 0) (xs : List X) → ((x : X) → Contains xs x → P x) → All P xs
@@ -45,10 +42,10 @@ All-from_members P (x ∷ xs) each = All-cons P x xs (each x (Contains-first x x
 
 pub thin_is_proper : (t : Task) → IsThinTask t → AllSumWithinOne t
 thin_is_proper t thin = record {
-  actions = All-from_members (λ (a : Action). SumsWithinOne a.effect) t.domain.actions (λ a inside.
+  actions = All-from_members (λ (a : Action). EachDraw SumWithinOne a.effect) t.domain.actions (λ a inside.
       let is = thin.actions a inside in
-      subst SumsWithinOne (sym is.effect) (effect_within_one is.cost is.chance is.atom is.probability));
-  init = All-from_members (λ (i : InitItem). SumWithinOne (item_chances i)) t.problem.init (λ i inside.
+      subst (EachDraw SumWithinOne) (sym is.effect) (effect_within_one is.cost is.chance is.atom is.probability));
+  init = All-from_members (EachItemDraw SumWithinOne) t.problem.init (λ i inside.
       let fact = thin.init i inside in
-      subst (λ chances. SumWithinOne chances) (sym (ap item_chances fact.1)) none_within_one);
+      subst (EachItemDraw SumWithinOne) (sym fact.1) (All-nil SumWithinOne));
 }
