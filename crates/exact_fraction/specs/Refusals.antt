@@ -1,7 +1,8 @@
 -- The numbers of the refusals of numbers.
 use Rattle.std.specs.Prelude.{ℕ}
 use Rattle.exact_fraction.specs.declared.refusal.NumberRefusal.{NumberRefusal}
-use Rattle.exact_fraction.specs.declared.refusal.NumberRefusal.TheVariants.{Form, TooManyDigits, ZeroDenominator, OutOfRange}
+use Rattle.exact_fraction.specs.declared.refusal.NumberRefusal.TheVariants.{Form, TooManyDigits}
+use Rattle.exact_fraction.specs.declared.refusal.NumberRefusal.TheVariants.{ZeroDenominator, OutOfRange}
 
 abbrev pub number_of : NumberRefusal → ℕ
 number_of Form = 1

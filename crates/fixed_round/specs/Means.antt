@@ -1,7 +1,10 @@
--- Means over the outcomes of a choice: outcome i has the weight `ws i` out of `den`, the cost `cs i`, and the value `vs i` of what follows.
---     weighted ws cs vs     the sum of weight * (cost + value)
-use Rattle.std.specs.Prelude.{◌≡◌, refl, ℕ, ◌+◌, ◌*◌, ◌/◌, ◌^◌, ◌<◌, ◌≤◌, List, [], ◌∷◌, length, sum, All}
-use Rattle.std.specs.Int.{div_ceil}
+-- Means over the outcomes of a choice: outcome i has weight `ws i` out of `den`, cost `cs i`,
+-- and value `vs i` of what follows.
+--     weighted ws cs vs            the sum of weight * (cost + value)
+--     AreOutcomes ws cs vs den     lists of the outcomes of a choice, within the limits
+--     IsFloor total den n          n is total / den, rounded down
+--     IsCeiling total den n        n is total / den, rounded up
+use Rattle.std.specs.Prelude.{◌≡◌, ℕ, ◌+◌, ◌*◌, ◌^◌, ◌<◌, ◌≤◌, List, ◌∷◌, length, sum, All}
 
 abbrev pub weighted : List ℕ → List ℕ → List ℕ → ℕ
 weighted (w ∷ ws) (c ∷ cs) (v ∷ vs) = w * (c + v) + weighted ws cs vs
@@ -26,15 +29,3 @@ pub record IsFloor (total den n : ℕ) : Type 0 where
 pub record IsCeiling (total den n : ℕ) : Type 0 where
   pub at_least : total ≤ n * den
   pub least : n * den < total + den
-
--- ---- worked examples
-
--- a coin: half of cost 3 and value 4, half of cost 3 and value 5
-weighted-example : weighted (1 ∷ 1 ∷ []) (3 ∷ 3 ∷ []) (4 ∷ 5 ∷ []) ≡ 15
-weighted-example = refl
-
-down-example : weighted (1 ∷ 1 ∷ []) (3 ∷ 3 ∷ []) (4 ∷ 5 ∷ []) / 2 ≡ 7
-down-example = refl
-
-up-example : div_ceil (weighted (1 ∷ 1 ∷ []) (3 ∷ 3 ∷ []) (4 ∷ 5 ∷ [])) 2 ≡ 8
-up-example = refl

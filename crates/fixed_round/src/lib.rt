@@ -2,11 +2,13 @@
 //! beside the code of its action.
 #![tactic(auto)]
 
+mod laws;
 mod mean;
 mod upper_word;
 
+pub use laws::word_laws;
 pub use mean::{down, up};
-pub use upper_word::{UpperWord, word_laws};
+pub use upper_word::UpperWord;
 
 #[cfg(test)]
 mod tests;

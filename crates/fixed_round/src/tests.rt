@@ -2,7 +2,7 @@
 
 ghost use Rattle.fixed_round.specs.Means.{AreOutcomes};
 
-use crate::{UpperWord, down, up, word_laws};
+use crate::{UpperWord, down, up};
 use std::cmp::Ordering;
 
 const COST: u64 = 10_000_000_000_000;
@@ -59,7 +59,6 @@ fn words(rt: HostRuntime) {
 
 #[test]
 fn words_in_order(rt: HostRuntime) {
-    word_laws();
     assert!(rt; UpperWord::pack(0, 65_535) < UpperWord::pack(1, 0));
     assert!(rt; UpperWord::pack(5, 1) < UpperWord::pack(5, 2));
     assert!(rt; UpperWord::pack(6, 0) > UpperWord::pack(5, 65_535));

@@ -1,14 +1,7 @@
 //! An upper value and the code of the action that supports it, in one word.
 
 ghost use Rattle.std.specs.Prelude.{◌≡◌, ◌*◌, ◌^◌, ◌≤◌, nat_lt};
-ghost use Rattle.fixed_round.specs.Words.{
-  word_of,
-  value_of,
-  code_of,
-  PartsAreExact,
-  WordsAreExact,
-  OrderIsByValue,
-};
+ghost use Rattle.fixed_round.specs.Words.{word_of, value_of, code_of};
 
 use std::marker::Model;
 
@@ -71,10 +64,3 @@ impl UpperWord {
         self.0
     }
 }
-
-/// What words, their values and their codes are to each other.
-pub fn word_laws()
-    ensures parts { PartsAreExact }
-    ensures word { WordsAreExact }
-    ensures order { OrderIsByValue }
-{}

@@ -2,7 +2,7 @@
 use Rattle.std.proofs.Common.{◌≡◌, ℕ, ◌+◌, ◌-◌, ◌*◌, ◌/◌, ◌^◌, ◌<◌, ◌≤◌, [], ◌∷◌, map, sym, ap, ◌∙◌, arith}
 use Rattle.std.proofs.Math.Nat.{mul-sub, mul-le-mul_left, le_of_mul-le-mul_left, mul_comm, one-mul, pow-zero, pow-suc}
 use Rattle.weighted.proofs.Means.{mean-positive}
-use Rattle.exact_fraction.specs.declared.Fraction.{Fraction}
+use Rattle.exact_fraction.specs.declared.fraction.Fraction.{Fraction}
 use Rattle.decision_process.specs.Process.{Outcome, expected}
 use Rattle.ppddl_model.specs.declared.tree.Task.{Task}
 use Rattle.ppddl_model.specs.State.{Name, State, no_atoms, with_atom, without}

@@ -1,6 +1,6 @@
 -- What thin effects mean.
 use Rattle.std.proofs.Common.{◌≡◌, ℕ, ◌+◌, ◌-◌, ◌*◌, ◌/◌, ◌^◌, true, List, [], ◌∷◌, ◌++◌, Some, refl}
-use Rattle.exact_fraction.specs.declared.Fraction.{Fraction}
+use Rattle.exact_fraction.specs.declared.fraction.Fraction.{Fraction}
 use Rattle.ppddl_model.specs.declared.tree.Effect.{Effect, Row_of-Effect, end_of-Effect, more_of-Effect, Row_of-Branch, end_of-Branch, more_of-Branch}
 use Rattle.ppddl_model.specs.declared.tree.Effect.TheVariants.{Both', Forall', When', Chance'}
 use Rattle.ppddl_model.specs.declared.tree.Effect.TheBlock.{shape-the_row-Effect-0, hidden-the_row-Effect-0, shape-the_row-Branch-2, hidden-the_row-Branch-2}

@@ -11,7 +11,7 @@
 --     step_named steps text          the first step of this name, as `(NAME)`
 use Rattle.std.specs.Prelude.{◌≡◌, ℕ, ◌+◌, ◌-◌, ◌*◌, ◌≤◌, ◌==◌, Bool, true, false, not, List, [], ◌∷◌, length, Option, bit_and, bit_or}
 use Rattle.std.specs.List.{find, list_any, AllZip}
-use Rattle.exact_fraction.specs.declared.Fraction.{Fraction}
+use Rattle.exact_fraction.specs.declared.fraction.Fraction.{Fraction}
 use Rattle.ppddl_model.specs.declared.tree.Atom.{Atom}
 use Rattle.ppddl_model.specs.declared.tree.Action.{Action}
 use Rattle.ppddl_model.specs.declared.tree.Condition.{Condition}

@@ -6,7 +6,7 @@
 --     EachItemDraw P i         P holds of the chances of an item of `:init`, where it is a `probabilistic`
 --     EachTaskDraw P task      P holds of the chances of each `probabilistic` in a task
 use Rattle.std.specs.Prelude.{All, List, [], ◌∷◌, ◌++◌, map}
-use Rattle.exact_fraction.specs.declared.Fraction.{Fraction}
+use Rattle.exact_fraction.specs.declared.fraction.Fraction.{Fraction}
 use Rattle.ppddl_model.specs.declared.tree.Action.{Action}
 use Rattle.ppddl_model.specs.declared.tree.Effect.{Effect, Row_of-Effect, end_of-Effect, more_of-Effect, Row_of-Branch, end_of-Branch, more_of-Branch}
 use Rattle.ppddl_model.specs.declared.tree.Effect.TheVariants.{Both', Forall', When', Chance'}

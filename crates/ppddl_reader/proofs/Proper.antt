@@ -6,7 +6,7 @@ use Rattle.std.proofs.Math.Nat.{div_self}
 use Rattle.std.proofs.lemmas.Nat.Gcd.{dvd_refl}
 use Rattle.std.proofs.lemmas.List.Elements.{All-nil, All-cons}
 use Rattle.plain_list.proofs.Members.{Contains-first, Contains-later}
-use Rattle.exact_fraction.specs.declared.Fraction.{Fraction}
+use Rattle.exact_fraction.specs.declared.fraction.Fraction.{Fraction}
 use Rattle.exact_fraction.specs.Numbers.{IsProbability}
 use Rattle.ppddl_model.specs.declared.tree.Action.{Action}
 use Rattle.ppddl_model.specs.declared.tree.Atom.{Atom}

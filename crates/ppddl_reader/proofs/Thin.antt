@@ -2,7 +2,7 @@
 use Rattle.std.proofs.Common.{◌≡◌, ◌⊎◌, inl, inr, ℕ, ◌^◌, ◌≤◌, List, [], length, ltb, Option, Some, None, Result, Ok, IfOk, All, Contains, refl, subst, arith}
 use Rattle.std.proofs.lemmas.Bool.{ltb-false}
 use Rattle.std.proofs.lemmas.List.Elements.{All-nil, All-cons, All-contains}
-use Rattle.exact_fraction.specs.declared.Fraction.{Fraction}
+use Rattle.exact_fraction.specs.declared.fraction.Fraction.{Fraction}
 use Rattle.exact_fraction.specs.declared.refusal.NumberRefusal.{NumberRefusal}
 use Rattle.exact_fraction.specs.Numbers.{Ratio, decimal_of, micro_units, amount_from}
 use Rattle.exact_fraction.specs.Numbers.{IsProbability as IsReduced}

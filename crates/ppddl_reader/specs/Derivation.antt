@@ -6,7 +6,7 @@
 --     IsProblem d f p         f spells the problem p of the domain d
 --     IsThinText fs t         the forms fs of a text spell the task t
 use Rattle.std.specs.Prelude.{◌≡◌, ◌≢◌, ℕ, ◌^◌, ◌≤◌, List, [], ◌∷◌, length, true, false, codes, Ok, Any, AllPairs}
-use Rattle.exact_fraction.specs.declared.Fraction.{Fraction}
+use Rattle.exact_fraction.specs.declared.fraction.Fraction.{Fraction}
 use Rattle.exact_fraction.specs.Numbers.{amount_of, probability_of}
 use Rattle.ppddl_lex.specs.Words.{is_name, is_flag}
 use Rattle.ppddl_model.specs.declared.tree.Action.{Action}

@@ -8,7 +8,7 @@
 --     thin_text              a domain and a problem of it
 use Rattle.std.specs.Prelude.{ℕ, ◌^◌, List, [], ◌∷◌, ◌++◌, length, Bool, ◌==◌, if◌then◌else◌, codes, Option, Some, None, Result, Ok, Err}
 use Rattle.std.specs.List.{list_any}
-use Rattle.exact_fraction.specs.declared.Fraction.{Fraction}
+use Rattle.exact_fraction.specs.declared.fraction.Fraction.{Fraction}
 use Rattle.exact_fraction.specs.declared.refusal.NumberRefusal.{NumberRefusal}
 use Rattle.exact_fraction.specs.declared.refusal.NumberRefusal.TheVariants as number
 use Rattle.exact_fraction.specs.Numbers.{amount_of, probability_of}

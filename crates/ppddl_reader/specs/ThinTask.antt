@@ -4,7 +4,7 @@
 --     IsThinAction predicates action   one cost, and one chance of adding one atom
 --     IsThinTask task                  the whole task is thin
 use Rattle.std.specs.Prelude.{◌≡◌, ◌⊎◌, ℕ, ◌^◌, ◌≤◌, List, [], ◌∷◌, length, Some, Contains}
-use Rattle.exact_fraction.specs.declared.Fraction.{Fraction}
+use Rattle.exact_fraction.specs.declared.fraction.Fraction.{Fraction}
 use Rattle.exact_fraction.specs.Numbers.{IsProbability}
 use Rattle.ppddl_model.specs.declared.tree.Atom.{Atom}
 use Rattle.ppddl_model.specs.declared.tree.Action.{Action}
