@@ -1,11 +1,11 @@
 -- A function term that has a value costs at least the least value of its function.
-use Rattle.std.proofs.Common.{◌≡◌, ℕ, ◌≤◌, min, Bool, true, false, cond, List, [], ◌∷◌, map, Option, Some, None, refl, ap, subst, arith}
+use Rattle.std.proofs.Common.{◌≡◌, ℕ, ◌≤◌, min, Bool, true, false, cond, List, [], ◌∷◌, map, Option, Some, None, refl, subst, arith}
 use Rattle.std.specs.Prelude.{All, filter, is_some, unwrap_or, IfSome}
 use Rattle.std.specs.List.{find, fold}
 use Rattle.std.specs.Option.{option_map}
 use Rattle.std.proofs.lemmas.List.Elements.{All-nil, All-cons, All-head, All-tail}
 use Rattle.ppddl_model.specs.declared.tree.ValueItem.{ValueItem}
-use Rattle.ppddl_model.specs.State.{Name, same_name, GroundAtom}
+use Rattle.ppddl_model.specs.State.{Name}
 use Rattle.ppddl_model.specs.Objects.{World, ground_atom}
 use Rattle.ppddl_model.specs.Functions.{is_value_of, has_value, cost_of, least_or, is_value_for, least_value}
 use Rattle.ppddl_model.proofs.Lists.{All-from_map}

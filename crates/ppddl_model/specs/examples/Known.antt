@@ -1,5 +1,5 @@
 -- What is known of conditions, computed: `(done)` may change, `(old b1)` is a fact and `(old c1)` is none.
-use Rattle.std.specs.Prelude.{◌≡◌, List, [], ◌∷◌, true, false, Bool, Option, Some, None, codes}
+use Rattle.std.specs.Prelude.{◌≡◌, [], ◌∷◌, true, false, Bool, Option, Some, None, codes}
 use Rattle.std.proofs.Common.{refl}
 use Rattle.ppddl_model.specs.declared.tree.Term.TheVariants.{Object}
 use Rattle.ppddl_model.specs.declared.tree.Condition.{Condition}
