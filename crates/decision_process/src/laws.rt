@@ -1,7 +1,7 @@
 //! The laws of decision processes, for every process over any states and actions.
 
 ghost use Rattle.decision_process.specs.Process.{Process};
-ghost use Rattle.decision_process.specs.Laws.{MinWithIsGreatest, LeastRises, PolicyEnds};
+ghost use Rattle.decision_process.specs.Laws.{MinWithIsLeast, LeastRises, PolicyEnds};
 ghost use Rattle.decision_process.specs.Laws.{NoPlanIsBelowLeast, NoPolicyIsBelowLeast};
 ghost use Rattle.decision_process.specs.Laws.{BalancedEncloses, BalancedIntervalEncloses};
 ghost use Rattle.decision_process.specs.Laws.{RaisedCovers, SunkCovers, SupportedActCovers};
@@ -19,7 +19,7 @@ ghost use Rattle.decision_process.specs.Laws.{CertificateEncloses};
 
 /// The laws of least costs, of plans and policies, and of balanced readings.
 pub fn process_laws<S, A>()
-    ensures min_with { MinWithIsGreatest A }
+    ensures min_with { MinWithIsLeast A }
     ensures rises { (p : Process S A) → LeastRises p }
     ensures plans { (p : Process S A) → NoPlanIsBelowLeast p }
     ensures policies { (p : Process S A) → NoPolicyIsBelowLeast p }
