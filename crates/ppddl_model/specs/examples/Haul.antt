@@ -1,5 +1,5 @@
 -- The haul: going along a road costs the length that `:init` gives to it. Giving up costs ten units.
-use Rattle.std.specs.Prelude.{◌≡◌, ℕ, List, [], ◌∷◌, map, Some, codes}
+use Rattle.std.specs.Prelude.{◌≡◌, ℕ, Bool, true, false, List, [], ◌∷◌, map, Some, codes}
 use Rattle.std.proofs.Common.{refl}
 use Rattle.decision_process.specs.Least.{least}
 use Rattle.ppddl_model.specs.declared.tree.Term.{Term}
@@ -16,7 +16,8 @@ use Rattle.ppddl_model.specs.declared.tree.Condition.TheVariants as condition
 use Rattle.ppddl_model.specs.declared.tree.Condition.TheBlock.{shape-the_row-Condition-0, hidden-the_row-Condition-0, hidden-the_row-Condition-1}
 use denote.Hole.Carrier.{hidden}
 use Rattle.ppddl_model.specs.State.{Name, State, no_atoms, with_atoms}
-use Rattle.ppddl_model.specs.Steps.{Instance, Charges, instance_name, open_instances, step, process, least_step_cost}
+use Rattle.ppddl_model.specs.Steps.{Instance, Charges, world, instance_name, open_instances, step, process, least_step_cost}
+use Rattle.ppddl_model.specs.WellFormed.{values_fit}
 use Rattle.ppddl_model.specs.Changing.{kept_instances, state_of_texts}
 
 abbrev of : Name → List Term → Atom
@@ -28,7 +29,7 @@ any_object variable = record { name = variable; kinds = codes "object" ∷ [] }
 abbrev x_and_y : List Term
 x_and_y = Variable (codes "?x") ∷ Variable (codes "?y") ∷ []
 
-abbrev go : Action
+abbrev pub go : Action
 go = record {
   name = codes "go";
   line = 4;
@@ -47,7 +48,13 @@ road x y = of (codes "road") (Object x ∷ Object y ∷ [])
 abbrev length_of : Name → Name → ℕ → ValueItem
 length_of x y value = record { function = of (codes "length") (Object x ∷ Object y ∷ []); value = value }
 
--- roads from a to b, from b to c and from a to c, with these lengths
+-- roads from a to b, from b to c and from a to c
+abbrev pub at_first : List Atom
+at_first =
+    of (codes "at") (Object (codes "a") ∷ [])
+    ∷ road (codes "a") (codes "b") ∷ road (codes "b") (codes "c") ∷ road (codes "a") (codes "c") ∷ []
+
+-- the haul over roads with these lengths
 abbrev haul : List ValueItem → Task
 haul lengths = record {
   domain = record {
@@ -65,7 +72,7 @@ haul lengths = record {
     file = 1;
     line = 7;
     objects = map (λ name. record { name = name; kind = codes "object" }) (codes "a" ∷ codes "b" ∷ codes "c" ∷ []);
-    init = map Fact (of (codes "at") (Object (codes "a") ∷ []) ∷ road (codes "a") (codes "b") ∷ road (codes "b") (codes "c") ∷ road (codes "a") (codes "c") ∷ []);
+    init = map Fact at_first;
     values = lengths;
     goal = condition.Atom (of (codes "at") (Object (codes "c") ∷ []));
     goal_reward = Some 10000000;
@@ -73,7 +80,7 @@ haul lengths = record {
 }
 
 -- one and a half units, two units and four units
-abbrev whole_haul : Task
+abbrev pub whole_haul : Task
 whole_haul = haul (length_of (codes "a") (codes "b") 1500000 ∷ length_of (codes "b") (codes "c") 2000000 ∷ length_of (codes "a") (codes "c") 4000000 ∷ [])
 
 -- no length from b to c
@@ -138,3 +145,17 @@ straight_to_c = refl
 only_where_it_is : state_of_texts whole_haul (codes "(at a)" ∷ []) ≡ at (codes "a")
 unfolding shape-the_row-Effect-0 hidden-the_row-Effect-0 hidden-the_row-Effect-1 shape-the_row-Branch-2 hidden-the_row-Branch-2 shape-the_row-Condition-0 hidden-the_row-Condition-0 hidden-the_row-Condition-1 hidden
 only_where_it_is = refl
+
+abbrev fit : Task → Bool
+fit task = values_fit (world task) task.domain task.problem.values
+
+-- a value that is given twice is one value, and two values of one term are none
+given_twice : fit (haul (length_of (codes "a") (codes "b") 1500000 ∷ length_of (codes "a") (codes "b") 1500000 ∷ [])) ≡ true
+given_twice = refl
+
+two_values : fit (haul (length_of (codes "a") (codes "b") 1500000 ∷ length_of (codes "a") (codes "b") 2000000 ∷ [])) ≡ false
+two_values = refl
+
+-- d is no object
+no_such_object : fit (haul (length_of (codes "a") (codes "d") 1500000 ∷ [])) ≡ false
+no_such_object = refl
