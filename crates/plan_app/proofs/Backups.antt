@@ -10,7 +10,7 @@ use Rattle.ppddl_model.specs.Denominator.{common_denominator, draws, most_draws}
 use Rattle.ppddl_model.specs.Outcomes.{outcomes}
 use Rattle.ppddl_model.specs.Steps.{Instance, Charges, world, base_cost, outcome_of, step}
 use Rattle.ppddl_model.proofs.States.{without-no_atoms}
-use Rattle.plan_app.specs.Packed.{thin_effect, atom_of}
+use Rattle.plan_app.specs.PackedTask.{thin_effect, atom_of}
 use Rattle.plan_app.proofs.Effects.{entry_with, entry_without, outcomes-thin, draws-thin}
 
 pub times_one : (n : ℕ) → n * 1 ≡ n

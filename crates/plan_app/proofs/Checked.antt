@@ -19,14 +19,14 @@ use Rattle.ppddl_model.specs.Objects.{bound}
 use Rattle.ppddl_model.specs.Steps.{Instance, instance_name, instances, open_instances, is_goal, step, step_den, process}
 use Rattle.ppddl_model.proofs.States.{same_state-Decides}
 use Rattle.ppddl_reader.specs.ThinTask.{IsThinTask}
-use Rattle.plan_app.specs.declared.checker.packed.Packed.{Packed}
-use Rattle.plan_app.specs.declared.checker.step.Step.{Step}
-use Rattle.plan_app.specs.declared.checker.table.Table.{Table}
+use Rattle.plan_app.specs.declared.checker.packed_task.PackedTask.{PackedTask}
+use Rattle.plan_app.specs.declared.checker.packed_action.PackedAction.{PackedAction}
+use Rattle.plan_app.specs.declared.checker.row_table.RowTable.{RowTable}
 use Rattle.plan_app.specs.Balanced.{AreDistinct}
 use Rattle.plan_app.specs.Values.{first_named, row_state, row_at, instance_named, instance_of, low, high, act}
 use Rattle.plan_app.specs.Bits.{is_atom_of}
-use Rattle.plan_app.specs.Packed.{IsStepOf, Packs, is_reached, backup, after, step_named}
-use Rattle.plan_app.specs.Table.{row_bits, row_with, IsTable, lower_at, upper_at, LowerFollows, UpperFollowsStep, UpperFollows, IsRowBalanced}
+use Rattle.plan_app.specs.PackedTask.{IsStepOf, Packs, is_reached, backup, after, step_named}
+use Rattle.plan_app.specs.RowTable.{row_bits, row_with, IsTable, lower_at, upper_at, LowerFollows, UpperFollowsStep, UpperFollows, IsRowBalanced}
 use Rattle.plan_app.proofs.Zips.{AllZip-left, AllZip-right}
 use Rattle.plan_app.proofs.Backups.{over_own}
 use Rattle.plan_app.proofs.Thin.{sole_instance, instances-thin, action_of, choices-thin}
@@ -55,23 +55,23 @@ row_found task (x ∷ rows) s r e =
       | false ↦ λ apart found. let later = row_found task rows s r found in (Contains-later x rows r later.0, later.1)
     ] refl e
 
-module _ (task : Task) (thin : IsThinTask task) (packed : Packed) (packs : Packs task packed) where
+module _ (task : Task) (thin : IsThinTask task) (packed : PackedTask) (packs : Packs task packed) where
   -- ---- instances and steps of one name
 
-  abbrev Corresponds : Option Instance → Option Step → Type 0
+  abbrev Corresponds : Option Instance → Option PackedAction → Type 0
   Corresponds None None = Unit {0}
   Corresponds None (Some st) = ⊥
   Corresponds (Some i) None = ⊥
   Corresponds (Some i) (Some st) = (a : Action) × Contains task.domain.actions a × (sole_instance a ≡ i) × IsStepOf packed.names a st
 
-  first_corresponds : (t u : Bool) → t ≡ u → (i : Instance) (st : Step) (o : Option Instance) (p : Option Step) → Corresponds (Some i) (Some st) → Corresponds o p
+  first_corresponds : (t u : Bool) → t ≡ u → (i : Instance) (st : PackedAction) (o : Option Instance) (p : Option PackedAction) → Corresponds (Some i) (Some st) → Corresponds o p
       → Corresponds (elim t [ true ↦ Some i | false ↦ o ]) (cond u (Some st) p)
   first_corresponds true true e i st o p here later = here
   first_corresponds true false e i st o p here later = cc
   first_corresponds false true e i st o p here later = cc
   first_corresponds false false e i st o p here later = later
 
-  named_in : (actions : List Action) (steps : List Step) → AllZip (IsStepOf packed.names) actions steps → ((a : Action) → Contains actions a → Contains task.domain.actions a) → (text : List ℕ)
+  named_in : (actions : List Action) (steps : List PackedAction) → AllZip (IsStepOf packed.names) actions steps → ((a : Action) → Contains actions a → Contains task.domain.actions a) → (text : List ℕ)
       → Corresponds (first_named (map sole_instance actions) text) (step_named steps text)
   named_in [] [] all inside text = tt
   named_in [] (st ∷ steps) all inside text = absurd all
@@ -89,20 +89,20 @@ module _ (task : Task) (thin : IsThinTask task) (packed : Packed) (packs : Packs
       subst (λ l. Corresponds (first_named l text) (step_named packed.steps text)) (sym (instances-thin task thin))
       (named_in task.domain.actions packed.steps packs.steps (λ a inside. inside) text)
 
-  nothing_named : (o : Option Instance) (p : Option Step) → Corresponds o p → o ≡ None → p ≡ None
+  nothing_named : (o : Option Instance) (p : Option PackedAction) → Corresponds o p → o ≡ None → p ≡ None
   nothing_named None None both e = refl
   nothing_named None (Some st) both e = absurd both
   nothing_named (Some i) None both e = absurd both
   nothing_named (Some i) (Some st) both e = cc
 
   -- an instance with its step
-  record IsTaken (i : Instance) (st : Step) : Type 0 where
+  record IsTaken (i : Instance) (st : PackedAction) : Type 0 where
     action : Action
     inside : Contains task.domain.actions action
     is : sole_instance action ≡ i
     of : IsStepOf packed.names action st
 
-  something_named : (o : Option Instance) (p : Option Step) → Corresponds o p → (i : Instance) → o ≡ Some i → (st : Step) × (p ≡ Some st) × IsTaken i st
+  something_named : (o : Option Instance) (p : Option PackedAction) → Corresponds o p → (i : Instance) → o ≡ Some i → (st : PackedAction) × (p ≡ Some st) × IsTaken i st
   something_named None p both i e = cc
   something_named (Some j) None both i e = absurd both
   something_named (Some j) (Some st) both i e = let same : j ≡ i = cc in (st, refl, record { action = both.0; inside = both.1; is = both.2 ∙ same; of = both.3 })
@@ -111,7 +111,7 @@ module _ (task : Task) (thin : IsThinTask task) (packed : Packed) (packs : Packs
   chosen s a inside =
       subst (λ l. Contains l (sole_instance a)) (sym (choices-thin task thin s ∙ instances-thin task thin)) (Contains-map sole_instance task.domain.actions a inside)
 
-  module _ (penalty : ℕ) (rows : List Row) (table : Table) (filled : IsTable packed.names rows table) where
+  module _ (penalty : ℕ) (rows : List Row) (table : RowTable) (filled : IsTable packed.names rows table) where
     abbrev lows : State → ℕ
     lows = low task rows
 
@@ -153,7 +153,7 @@ module _ (task : Task) (thin : IsThinTask task) (packed : Packed) (packs : Packs
       act_is : act task rows s ≡ instance_of task r.act
       act_is = ap (λ (o : Option Row). elim o [ None ↦ None | Some q ↦ instance_of task q.act ]) found
 
-      module _ (a : Action) (there : Contains task.domain.actions a) (st : Step) (of : IsStepOf packed.names a st) where
+      module _ (a : Action) (there : Contains task.domain.actions a) (st : PackedAction) (of : IsStepOf packed.names a st) where
         next_bits : state_bits packed.names (with_atom s (of.atom ∷ [])) ≡ after st bits
         next_bits = state_bits-after task thin packed packs a there st of s ∙ ap (after st) bits_are
 
@@ -184,13 +184,13 @@ module _ (task : Task) (thin : IsThinTask task) (packed : Packed) (packs : Packs
           let nothing = nothing_named (instance_named task name) (step_named packed.steps name) (named_corresponds name) e in
           absurd (subst (UpperFollowsStep packed table penalty bits r.upper) nothing follows)
 
-      some_instance : (o : Option Instance) (p : Option Step) → Corresponds o p → UpperFollowsStep packed table penalty bits r.upper p → (i : Instance) × (o ≡ Some i)
+      some_instance : (o : Option Instance) (p : Option PackedAction) → Corresponds o p → UpperFollowsStep packed table penalty bits r.upper p → (i : Instance) × (o ≡ Some i)
       some_instance None None both follows = absurd follows
       some_instance None (Some st) both follows = absurd both
       some_instance (Some i) p both follows = (i, refl)
 
       takes_by : (does : Act) → UpperFollows packed table penalty bits r.upper does → (i : Instance) → instance_of task does ≡ Some i
-          → (st : Step) × IsTaken i st × (backup st r.upper (upper_at packed table penalty (after st bits)) ≤ r.upper * st.chance.den)
+          → (st : PackedAction) × IsTaken i st × (backup st r.upper (upper_at packed table penalty (after st bits)) ≤ r.upper * st.chance.den)
       takes_by GiveUp follows i e = cc
       takes_by Goal follows i e = absurd follows
       takes_by (Do name) follows i e =
@@ -234,7 +234,7 @@ module _ (task : Task) (thin : IsThinTask task) (packed : Packed) (packs : Packs
           high_quit_at none = subst (λ n. penalty ≤ n) (sym (high_is off)) (quits_by r.act elsewhere.2 (sym act_is ∙ none))
 
           module _ (i : Instance) (is : act task rows s ≡ Some i) where
-            taken : (st : Step) × IsTaken i st × (backup st r.upper (upper_at packed table penalty (after st bits)) ≤ r.upper * st.chance.den)
+            taken : (st : PackedAction) × IsTaken i st × (backup st r.upper (upper_at packed table penalty (after st bits)) ≤ r.upper * st.chance.den)
             taken = takes_by r.act elsewhere.2 i (sym act_is ∙ is)
 
             high_open_at : Contains (open_instances task s) i

@@ -16,7 +16,7 @@ use Rattle.ppddl_model.specs.Costs.{decreases}
 use Rattle.ppddl_model.specs.Outcomes.{Entry, joined, weighed, nothing, outcomes}
 use Rattle.ppddl_model.specs.Known.{known}
 use Rattle.ppddl_model.specs.Changing.{literals}
-use Rattle.plan_app.specs.Packed.{thin_effect, atom_of}
+use Rattle.plan_app.specs.PackedTask.{thin_effect, atom_of}
 
 -- the chances in an effect
 abbrev mutual

@@ -20,7 +20,7 @@ use Rattle.ppddl_model.specs.Changing.{fact_atoms}
 use Rattle.ppddl_model.proofs.States.{same_name-Decides, same_atom-Decides}
 use Rattle.plan_app.specs.Bits.{bits_where}
 use Rattle.ppddl_reader.specs.ThinTask.{IsDeclared}
-use Rattle.plan_app.specs.Packed.{IsThin, IsFact, thin_effect, atom_of}
+use Rattle.plan_app.specs.PackedTask.{HasThinEffect, IsFact, thin_effect, atom_of}
 use Rattle.plan_app.proofs.Effects.{chances, chances-thin}
 use Rattle.plan_app.proofs.Bits.{bits_from_agree, bits_where-or}
 
@@ -80,7 +80,7 @@ fact_of_thin predicates i (a, is, declared) =
     let alone : a ≡ atom_of a.predicate = ap (λ (args : List Term). record { predicate = a.predicate; args = args }) declared.alone in
     (a.predicate, is ∙ ap item.Fact alone)
 
-pub chance_of_thin : (a : Action) → IsThin a → (cost : ℕ) (chance : Fraction) (name : Name) → a.effect ≡ thin_effect cost chance (atom_of name) → IsProbability chance
+pub chance_of_thin : (a : Action) → HasThinEffect a → (cost : ℕ) (chance : Fraction) (name : Name) → a.effect ≡ thin_effect cost chance (atom_of name) → IsProbability chance
 chance_of_thin a (predicates, thin) cost chance name is =
     let atom : thin.atom ≡ atom_of thin.atom.predicate = ap (λ (args : List Term). record { predicate = thin.atom.predicate; args = args }) thin.declared.alone in
     let other : a.effect ≡ thin_effect thin.cost thin.chance (atom_of thin.atom.predicate) = thin.effect ∙ ap (thin_effect thin.cost thin.chance) atom in

@@ -11,6 +11,7 @@ pub mod Packing
 pub mod Readings
 pub mod Checked
 pub mod Verdict
-pub mod Endings
 pub mod Enclosed
+pub mod Texts
+pub mod Endings
 pub mod Statuses

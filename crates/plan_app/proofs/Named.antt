@@ -6,9 +6,9 @@ use Rattle.std.proofs.lemmas.Map.Text.{is_eq-slice_cmp}
 use Rattle.plain_list.specs.Texts.{list_text}
 use Rattle.ppddl_model.specs.State.{Name}
 use Rattle.ppddl_model.proofs.States.{same_name-Decides}
-use Rattle.plan_app.specs.declared.checker.step.Step.{Step}
+use Rattle.plan_app.specs.declared.checker.packed_action.PackedAction.{PackedAction}
 use Rattle.plan_app.specs.Bits.{is_atom_of}
-use Rattle.plan_app.specs.Packed.{step_named}
+use Rattle.plan_app.specs.PackedTask.{step_named}
 use Rattle.plan_app.proofs.Bits.{false_from_not, same_name_turned, is_atom_of-text}
 
 find_agree : {X : Type 0} (p q : X → Bool) → ((x : X) → p x ≡ q x) → (xs : List X) → find p xs ≡ find q xs
@@ -19,14 +19,14 @@ find_nothing : {X : Type 0} (xs : List X) → find (λ x. false) xs ≡ None
 find_nothing [] = refl
 find_nothing (x ∷ xs) = find_nothing xs
 
-pub step_named-none : (steps : List Step) (text : List ℕ) → ((name : Name) → list_text (name ∷ []) ≡ text → ⊥) → step_named steps text ≡ None
+pub step_named-none : (steps : List PackedAction) (text : List ℕ) → ((name : Name) → list_text (name ∷ []) ≡ text → ⊥) → step_named steps text ≡ None
 step_named-none steps text none =
-    find_agree (λ (step : Step). is_atom_of text step.name) (λ step. false)
+    find_agree (λ (step : PackedAction). is_atom_of text step.name) (λ step. false)
     (λ step. false_from_not (is_atom_of text step.name) (same_name-Decides (list_text (step.name ∷ [])) text) (none step.name)) steps
     ∙ find_nothing steps
 
-pub step_named-name : (steps : List Step) (name : Name) (text : List ℕ) → list_text (name ∷ []) ≡ text
-    → find (λ (step : Step). pointwise nat_eq step.name name) steps ≡ step_named steps text
+pub step_named-name : (steps : List PackedAction) (name : Name) (text : List ℕ) → list_text (name ∷ []) ≡ text
+    → find (λ (step : PackedAction). pointwise nat_eq step.name name) steps ≡ step_named steps text
 step_named-name steps name text is =
-    find_agree (λ (step : Step). pointwise nat_eq step.name name) (λ (step : Step). is_atom_of text step.name)
+    find_agree (λ (step : PackedAction). pointwise nat_eq step.name name) (λ (step : PackedAction). is_atom_of text step.name)
     (λ step. sym (is_eq-slice_cmp step.name name) ∙ same_name_turned name step.name ∙ sym (is_atom_of-text name step.name) ∙ ap (λ t. is_atom_of t step.name) is) steps

@@ -15,7 +15,7 @@ use Rattle.ppddl_model.proofs.States.{same_name-Decides, same_atom-Decides, has-
 use Rattle.plain_list.proofs.Members.{Contains-map}
 use Rattle.plan_app.specs.Values.{row_state}
 use Rattle.plan_app.specs.Bits.{bits_where}
-use Rattle.plan_app.specs.Table.{row_bits}
+use Rattle.plan_app.specs.RowTable.{row_bits}
 use Rattle.plan_app.proofs.Bits.{bits_where-or, bits_where-and, any-bits_where, agree_from_bits, bits_from_agree, bits_where-map, same_name_turned}
 use Rattle.plan_app.proofs.Facts.{same_atom-names, or_false}
 use Rattle.plan_app.proofs.Lists.{Contains-map_cases}

@@ -18,15 +18,15 @@ use Rattle.ppddl_model.specs.Steps.{Charges, world, is_goal, step, step_den}
 use Rattle.ppddl_model.specs.Changing.{facts, literals, changing_atoms}
 use Rattle.ppddl_model.proofs.States.{same_state-Decides}
 use Rattle.ppddl_reader.specs.ThinTask.{IsThinTask}
-use Rattle.plan_app.specs.declared.checker.packed.Packed.{Packed}
-use Rattle.plan_app.specs.declared.checker.packed.Goal.TheVariants.{Fixed, Changing}
-use Rattle.plan_app.specs.declared.checker.step.Step.{Step}
-use Rattle.plan_app.specs.declared.checker.table.Bounds.{Bounds}
-use Rattle.plan_app.specs.declared.checker.table.Table.{Table}
+use Rattle.plan_app.specs.declared.checker.packed_task.PackedTask.{PackedTask}
+use Rattle.plan_app.specs.declared.checker.packed_goal.PackedGoal.TheVariants.{Fixed, Changing}
+use Rattle.plan_app.specs.declared.checker.packed_action.PackedAction.{PackedAction}
+use Rattle.plan_app.specs.declared.checker.row_table.Bounds.{Bounds}
+use Rattle.plan_app.specs.declared.checker.row_table.RowTable.{RowTable}
 use Rattle.plan_app.specs.Values.{row_state, row_at, low, high}
 use Rattle.plan_app.specs.Bits.{bits_where}
-use Rattle.plan_app.specs.Packed.{MakesTrue, IsStepOf, packed_goal, Packs, is_reached, after}
-use Rattle.plan_app.specs.Table.{row_bits, row_with, IsTable, lower_at, upper_at}
+use Rattle.plan_app.specs.PackedTask.{MakesTrue, IsStepOf, packed_goal, Packs, is_reached, after}
+use Rattle.plan_app.specs.RowTable.{row_bits, row_with, IsTable, lower_at, upper_at}
 use Rattle.plan_app.proofs.Zips.{AllZip-left}
 use Rattle.plan_app.proofs.Effects.{literals-thin, holds-nothing}
 use Rattle.plan_app.proofs.Backups.{over_whole, over_own, below_own, below_whole, above_own, above_whole, backup-thin, pow_one}
@@ -48,7 +48,7 @@ lower_of_row : (o : Option Row)
 lower_of_row None = refl
 lower_of_row (Some r) = refl
 
-module _ (task : Task) (thin : IsThinTask task) (packed : Packed) (packs : Packs task packed) where
+module _ (task : Task) (thin : IsThinTask task) (packed : PackedTask) (packs : Packs task packed) where
   pub changing_names : changing_atoms task ≡ map (λ name. name ∷ []) packed.names
   changing_names = changing_atoms-names task thin packed.names packs.names
 
@@ -95,7 +95,7 @@ module _ (task : Task) (thin : IsThinTask task) (packed : Packed) (packs : Packs
       ∙ ap (λ b. cond b (Some r) (row_at task rows s)) (same_row r s agrees)
       ∙ ap (cond (row_bits packed.names r == state_bits packed.names s) (Some r)) (row_at-packed rows s agrees)
 
-  module _ (rows : List Row) (table : Table) (filled : IsTable packed.names rows table) where
+  module _ (rows : List Row) (table : RowTable) (filled : IsTable packed.names rows table) where
     pub low-packed : (s : State) → Agrees task s → low task rows s ≡ lower_at table (state_bits packed.names s)
     low-packed s agrees =
         ap (λ o. elim o [ None ↦ 0 | Some r ↦ r.lower ]) (row_at-packed rows s agrees)
@@ -117,7 +117,7 @@ module _ (task : Task) (thin : IsThinTask task) (packed : Packed) (packs : Packs
 
   -- ---- steps
 
-  module _ (a : Action) (inside : Contains task.domain.actions a) (st : Step) (of : IsStepOf packed.names a st) where
+  module _ (a : Action) (inside : Contains task.domain.actions a) (st : PackedAction) (of : IsStepOf packed.names a st) where
     atom_inside : Contains packed.names of.atom
     atom_inside =
         let made : (name : Name) × Contains packed.names name × MakesTrue a name = AllZip-left MakesTrue task.domain.actions packed.names packs.names a inside in

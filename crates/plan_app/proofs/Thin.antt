@@ -34,7 +34,7 @@ use Rattle.ppddl_model.specs.Known.{is_not_false, known}
 use Rattle.ppddl_model.specs.Changing.{literals, is_kept, kept_instances, chance_atoms, fact_atoms, facts, changing_atoms, changing_predicates}
 use Rattle.ppddl_model.proofs.States.{has-with_atom, has-with_atoms, has-union, same_from_has}
 use Rattle.ppddl_reader.specs.ThinTask.{IsThinTask}
-use Rattle.plan_app.specs.Packed.{IsThin, thin_effect, atom_of, MakesTrue}
+use Rattle.plan_app.specs.PackedTask.{HasThinEffect, thin_effect, atom_of, MakesTrue}
 use Rattle.plan_app.proofs.Lists.{filter_all, flat_map_nothing, flat_map_singles, flat_map-AllZip, Contains-flat_map, All-flat_map, Contains-map_cases}
 use Rattle.plan_app.proofs.Effects.{denominators-thin, decreases-thin, draws-thin, literals-thin, are_valued-thin, holds-nothing, known-nothing}
 use Rattle.plan_app.proofs.Backups.{times_one, times_same}
@@ -70,7 +70,7 @@ pub record Part (a : Action) : Type 0 where
   pub effect : a.effect ≡ thin_effect cost chance (atom_of name)
   pub probability : IsProbability chance
 
-pub part_of : (a : Action) → IsThin a → Part a
+pub part_of : (a : Action) → HasThinEffect a → Part a
 part_of a (predicates, thin) =
     let alone : thin.atom ≡ atom_of thin.atom.predicate = ap (λ (args : List Term). record { predicate = thin.atom.predicate; args = args }) thin.declared.alone in
     record {

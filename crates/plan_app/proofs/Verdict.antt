@@ -15,13 +15,13 @@ use Rattle.ppddl_model.specs.Steps.{starts, start_den}
 use Rattle.ppddl_model.specs.Changing.{facts, changing_atoms}
 use Rattle.ppddl_model.proofs.States.{same_name-Decides}
 use Rattle.ppddl_reader.specs.ThinTask.{IsThinTask}
-use Rattle.plan_app.specs.declared.checker.packed.Packed.{Packed}
-use Rattle.plan_app.specs.declared.checker.table.Table.{Table}
+use Rattle.plan_app.specs.declared.checker.packed_task.PackedTask.{PackedTask}
+use Rattle.plan_app.specs.declared.checker.row_table.RowTable.{RowTable}
 use Rattle.plan_app.specs.Values.{row_state, low, high}
 use Rattle.plan_app.specs.Balanced.{AreDistinct, row_states, IsBalancedFor}
 use Rattle.plan_app.specs.Bits.{is_atom_of, is_known}
-use Rattle.plan_app.specs.Packed.{Packs}
-use Rattle.plan_app.specs.Table.{row_bits, AreRows, IsTable, lower_at, upper_at, AreBalanced, IsStartInterval, IsBalancedBy}
+use Rattle.plan_app.specs.PackedTask.{Packs}
+use Rattle.plan_app.specs.RowTable.{row_bits, AreRows, IsTable, lower_at, upper_at, AreBalanced, IsStartInterval, IsBalancedBy}
 use Rattle.plan_app.proofs.Lists.{Contains-map_cases}
 use Rattle.plan_app.proofs.Thin.{at_starts-thin, start_den-thin}
 use Rattle.plan_app.proofs.Packing.{state_bits, Agrees-row_state, Agrees-first, same_states, state_bits-row_state, state_bits-first}
@@ -76,7 +76,7 @@ module _ {X : Type 0} (p : X → Bool) where
         | inr later ↦ either_way (p y) (list_any p ys) (any_passes ys x later passes)
       ]
 
-module _ (task : Task) (thin : IsThinTask task) (packed : Packed) (packs : Packs task packed) where
+module _ (task : Task) (thin : IsThinTask task) (packed : PackedTask) (packs : Packs task packed) where
   abbrev names : List Name
   names = packed.names
 
@@ -141,7 +141,7 @@ module _ (task : Task) (thin : IsThinTask task) (packed : Packed) (packs : Packs
       distinct = distinct_bits c.rows balanced.rows_distinct;
     }
 
-    module _ (table : Table) (filled : IsTable packed.names c.rows table) where
+    module _ (table : RowTable) (filled : IsTable packed.names c.rows table) where
       first_low : at_starts (low task c.rows) (starts task) ≡ lower_at table packed.start
       first_low =
           at_starts-thin task thin (low task c.rows)

@@ -1,178 +1,156 @@
 -- How a run ends: its status and the text that it puts.
---     IsMissing held q                          a name that is read is not held; the certificate's is read behind a thin text alone
---     Reports q held report                     the shelf holds a thin text and a balanced certificate of it, and this is the report
---     Concludes q held before now ending        the request may end so; before and now are the shelf's counts of failed reads
---     EndsWith words held before now ending     the run with these words may end so
---     Ends words held before now status text    the same, by status and text
---     HasVerdict status                         the status speaks of the words or the texts, and not of a fault or of memory
---     IsAnswer status                           the status is 0, 6, 7 or 8, or 5
---     IsTold words held q domain f              the words ask for q, and the shelf tells these bytes of its names
---     Reported .. new c                         c is the certificate that was accepted, and its report was put
---     OnlyRead ..                               what a shelf holds stays, no count falls, and no count of write faults rose
--- Where a shelf doesn't tell what it holds, "the shelf holds" is read as "it may hold".
-use Rattle.std.specs.Prelude.{◌≡◌, ◌≢◌, ◌≤◌, ◌⊎◌, ℕ, List, [], ◌∷◌, Option, Some, None, Contains}
+--     IsMissing held q               a name that is read is not held; the certificate's is read behind a thin text alone
+--     HasReport held q report        the shelf holds a thin text and a balanced certificate of it, and this is the report
+--     MayStop .. q stop              the request may have no report for this reason
+--     MayEnd .. request ending       the words with this request, if any, may end so
+--     MayEndAs .. words .. status text
+--                                    the run with these words may end with this status and this text
+--     HasVerdict status              the status speaks of the words or the texts, and not of a fault or of memory
+--     IsAnswer status                the status is 0, 6, 7 or 8, or 5
+--     IsTold words held q domain f   the words ask for q, and the shelf tells these bytes of its names
+--     PutsReport domain f old new    a certificate was accepted, and its report was put
+--     OnlyRead ..                    what a shelf holds stays, no count falls, and no count of write faults rose
+-- Where a shelf does not tell what it holds, "the shelf holds" is read as "it may hold".
+use Rattle.std.specs.Prelude.{◌≡◌, ◌≢◌, ◌≤◌, ◌⊎◌, ℕ, List, [], ◌∷◌, Option, Some, None, Result, Ok, Err, Contains}
+use Rattle.std.specs.Borrow.{Bor}
 use Rattle.std.specs.Io.KnownBytes.{append_known}
 use Rattle.shelf_io.specs.Causes.{Rose}
 use Rattle.shelf_io.specs.Shelf.{Told, Missing, Holds, MayHold}
+use Rattle.shelf_io.specs.Streams.{PutsPrefix}
 use Rattle.certificate.specs.Content.{Content}
-use Rattle.certificate.specs.declared.refusal.CertRefusal.{CertRefusal}
-use Rattle.certificate.specs.declared.refusal.CertRefusal.TheVariants as refusal
+use Rattle.certificate.specs.Reading.{read_of}
 use Rattle.ppddl_model.specs.declared.tree.Task.{Task}
 use Rattle.ppddl_model.specs.Steps.{Charges}
-use Rattle.ppddl_reader.specs.ThinText.{task_of}
 use Rattle.ppddl_reader.specs.ThinTask.{IsThinTask}
-use Rattle.plan_app.specs.declared.ending.Ending.{Ending}
-use Rattle.plan_app.specs.declared.ending.Ending.TheVariants as ending
-use Rattle.std.specs.Borrow.{Bor}
-use Rattle.plan_app.specs.Words.{Names, spelled, request_of}
-use Rattle.plan_app.specs.Texts.{accepted_text, bad_words_text, read_failed_text, refused_text, not_accepted_text, limit_text}
+use Rattle.plan_app.specs.declared.stop.Stop.{Stop}
+use Rattle.plan_app.specs.declared.stop.Stop.TheVariants.{BadWords, ReadFailed, NoMemory, Limit, Refused, NotAccepted}
+use Rattle.plan_app.specs.Request.{Asked, request_by}
+use Rattle.plan_app.specs.Texts.{accepted_text}
+use Rattle.plan_app.specs.Stop.{status_of, text_of}
 use Rattle.plan_app.specs.Balanced.{IsBalancedFor, EnclosesFor}
-use Rattle.plan_app.specs.Verdict.{IsTooLong, IsRefused, IsThin, IsDecoded, IsRejected, charged_by}
+use Rattle.plan_app.specs.Inputs.{IsAboveLimit, IsRefusedAt, IsTextOfTask, IsDecoded, IsRejectedAt, charged_by}
 
--- ---- what stops the parts of `check`
+-- ---- what a shelf may hold
 
--- the bytes held are a thin text, or may be
+-- the text of a task
+pub record MayHoldTask (told : Told) (task : Task) : Type 0 where
+  pub domain : List ℕ
+  pub charges : Charges
+  pub held : MayHold told domain
+  pub text : IsTextOfTask domain task charges
+
 abbrev pub MayHoldThin : Told → Type 0
-MayHoldThin told = (domain : List ℕ) × MayHold told domain × (task : Task) × (charges : Charges) × IsThin domain task charges
+MayHoldThin told = (task : Task) × MayHoldTask told task
 
-abbrev pub IsMissing : (List ℕ → Told) → Names → Type 0
+abbrev pub IsMissing : (List ℕ → Told) → Asked → Type 0
 IsMissing held q = (held q.domain ≡ Missing) ⊎ ((held q.certificate ≡ Missing) × MayHoldThin (held q.domain))
 
--- the planning text was not read
-abbrev pub TextStops : Names → (List ℕ → Told) → ℕ → ℕ → Ending → Type 0
-TextStops q held before now ending.NoMemory = Unit {0}
-TextStops q held before now ending.ReadFailed = Rose before now ⊎ (held q.domain ≡ Missing)
-TextStops q held before now ending.TooLong = (domain : List ℕ) × MayHold (held q.domain) domain × IsTooLong domain
-TextStops q held before now ending.BadWords = ⊥
-TextStops q held before now ending.Refused = ⊥
-TextStops q held before now ending.NotAccepted = ⊥
-TextStops q held before now (ending.Accepted report) = ⊥
+-- ---- how a request and a run may end
 
--- the text has no task
-abbrev pub TaskStops : List ℕ → Ending → Type 0
-TaskStops text ending.NoMemory = Unit {0}
-TaskStops text ending.Refused = task_of text ≡ None
-TaskStops text ending.ReadFailed = ⊥
-TaskStops text ending.TooLong = ⊥
-TaskStops text ending.BadWords = ⊥
-TaskStops text ending.NotAccepted = ⊥
-TaskStops text (ending.Accepted report) = ⊥
-
--- there is no certificate
-abbrev pub CertificateStops : Names → (List ℕ → Told) → ℕ → ℕ → Ending → Type 0
-CertificateStops q held before now ending.NoMemory = Unit {0}
-CertificateStops q held before now ending.ReadFailed = Rose before now ⊎ (held q.certificate ≡ Missing)
-CertificateStops q held before now ending.NotAccepted = (f : List ℕ) × MayHold (held q.certificate) f × ((c : Content) → IsDecoded f c → ⊥)
-CertificateStops q held before now ending.TooLong = ⊥
-CertificateStops q held before now ending.BadWords = ⊥
-CertificateStops q held before now ending.Refused = ⊥
-CertificateStops q held before now (ending.Accepted report) = ⊥
-
-abbrev pub ending_of_refusal : CertRefusal → Ending
-ending_of_refusal refusal.Memory = ending.NoMemory
-ending_of_refusal (refusal.Syntax line) = ending.NotAccepted
-ending_of_refusal (refusal.Order line) = ending.NotAccepted
-ending_of_refusal (refusal.Count line) = ending.NotAccepted
-ending_of_refusal refusal.TooLong = ending.NotAccepted
-
--- the certificate is not balanced
-abbrev pub JudgeStops : Task → Content → Ending → Type 0
-JudgeStops task c ending.NoMemory = Unit {0}
-JudgeStops task c ending.NotAccepted = (charges : Charges) × (charged_by task ≡ Some charges) × (IsBalancedFor task charges c → ⊥)
-JudgeStops task c ending.ReadFailed = ⊥
-JudgeStops task c ending.TooLong = ⊥
-JudgeStops task c ending.BadWords = ⊥
-JudgeStops task c ending.Refused = ⊥
-JudgeStops task c (ending.Accepted report) = ⊥
-
-abbrev pub IsReported : Task → Content → List ℕ → Type 0
-IsReported task c report = (charges : Charges) × (charged_by task ≡ Some charges) × IsBalancedFor task charges c × (report ≡ accepted_text c)
-
--- ---- how a request and a run end
-
-pub record Reports (q : Names) (held : List ℕ → Told) (report : List ℕ) : Type 0 where
-  pub domain : List ℕ
-  pub f : List ℕ
+pub record HasReport (held : List ℕ → Told) (q : Asked) (report : List ℕ) : Type 0 where
   pub task : Task
-  pub charges : Charges
+  pub f : List ℕ
   pub c : Content
-  pub domain_held : MayHold (held q.domain) domain
+  pub may_hold : MayHoldTask (held q.domain) task
   pub certificate_held : MayHold (held q.certificate) f
-  pub thin : IsThin domain task charges
   pub shape : IsThinTask task
   pub decoded : IsDecoded f c
-  pub balanced : IsBalancedFor task charges c
+  pub balanced : IsBalancedFor task may_hold.charges c
   pub text : report ≡ accepted_text c
 
-abbrev pub Concludes : Names → (List ℕ → Told) → ℕ → ℕ → Ending → Type 0
-Concludes q held before now ending.NoMemory = Unit {0}
-Concludes q held before now ending.ReadFailed = Rose before now ⊎ IsMissing held q
-Concludes q held before now ending.TooLong = (domain : List ℕ) × MayHold (held q.domain) domain × IsTooLong domain
-Concludes q held before now ending.Refused = (domain : List ℕ) × MayHold (held q.domain) domain × IsRefused domain
-Concludes q held before now ending.NotAccepted =
-    (domain : List ℕ) × (f : List ℕ) × MayHold (held q.domain) domain × MayHold (held q.certificate) f × IsRejected domain f
-Concludes q held before now (ending.Accepted report) = Reports q held report
-Concludes q held before now ending.BadWords = ⊥
+-- by what a shelf held, by its counts of failed reads, and by itself before and after
+module _ {S : Type 0} (held : S → List ℕ → Told) (reads : S → ℕ) (old new : S) where
+  abbrev pub MayStop : Asked → Stop → Type 0
+  MayStop q NoMemory = Unit {0}
+  MayStop q ReadFailed = Rose (reads old) (reads new) ⊎ IsMissing (held old) q
+  MayStop q (Limit code most) = (domain : List ℕ) × MayHold (held old q.domain) domain × IsAboveLimit domain code most
+  MayStop q (Refused code file line) = (domain : List ℕ) × MayHold (held old q.domain) domain × IsRefusedAt domain code file line
+  MayStop q (NotAccepted code row) =
+      (domain : List ℕ) × (f : List ℕ) × MayHold (held old q.domain) domain × MayHold (held old q.certificate) f × IsRejectedAt domain f code row
+  MayStop q BadWords = ⊥
 
-abbrev pub Concluded : Option Names → (List ℕ → Told) → ℕ → ℕ → Ending → Type 0
-Concluded None held before now e = e ≡ ending.BadWords
-Concluded (Some q) held before now e = Concludes q held before now e
+  abbrev pub MayEndRequest : Asked → Result (List ℕ) Stop → Type 0
+  MayEndRequest q (Ok report) = HasReport (held old) q report
+  MayEndRequest q (Err stop) = MayStop q stop
 
-abbrev pub EndsWith : List (List ℕ) → (List ℕ → Told) → ℕ → ℕ → Ending → Type 0
-EndsWith words held before now e = Concluded (request_of words) held before now e
+  abbrev pub MayEnd : Option Asked → Result (List ℕ) Stop → Type 0
+  MayEnd None ending = ending ≡ Err BadWords
+  MayEnd (Some q) ending = MayEndRequest q ending
 
-abbrev pub status_of : Ending → ℕ
-status_of ending.BadWords = 2
-status_of ending.ReadFailed = 3
-status_of ending.NoMemory = 5
-status_of ending.TooLong = 8
-status_of ending.Refused = 6
-status_of ending.NotAccepted = 7
-status_of (ending.Accepted report) = 0
+-- the same by status and text
+pub record MayEndAs {S : Type 0} (held : S → List ℕ → Told) (reads : S → ℕ) (words : List (Bor (List ℕ))) (old new : S) (status : ℕ) (text : List ℕ) : Type 0 where
+  pub ending : Result (List ℕ) Stop
+  pub may_end : MayEnd held reads old new (request_by words) ending
+  pub status_is : status ≡ status_of ending
+  pub text_is : text ≡ text_of ending
 
-abbrev pub ending_text : Ending → List ℕ
-ending_text ending.BadWords = bad_words_text
-ending_text ending.ReadFailed = read_failed_text
-ending_text ending.NoMemory = []
-ending_text ending.TooLong = limit_text
-ending_text ending.Refused = refused_text
-ending_text ending.NotAccepted = not_accepted_text
-ending_text (ending.Accepted report) = report
+-- ---- what the parts of a run say
 
-pub record Ends (words : List (List ℕ)) (held : List ℕ → Told) (before now status : ℕ) (text : List ℕ) : Type 0 where
-  pub reason : Ending
-  pub ended : EndsWith words held before now reason
-  pub status_is : status ≡ status_of reason
-  pub text_is : text ≡ ending_text reason
+-- the certificate is one of the bytes that the shelf holds
+pub record MayHoldCertificate (told : Told) (c : Content) : Type 0 where
+  pub f : List ℕ
+  pub held : MayHold told f
+  pub decoded : IsDecoded f c
+  pub only : (other : Content) → IsDecoded f other → other ≡ c
+  pub read : read_of f ≡ Ok c
 
--- the same of the words and of a shelf before and after
-abbrev pub EndsOver : {S : Type 0} → (S → List ℕ → Told) → (S → ℕ) → List (Bor (List ℕ)) → S → S → ℕ → List ℕ → Type 0
-EndsOver held reads words old new status text = Ends (spelled words) (held old) (reads old) (reads new) status text
+abbrev pub IsReportOf : Task → Content → List ℕ → Type 0
+IsReportOf task c report = (charges : Charges) × (charged_by task ≡ Some charges) × IsBalancedFor task charges c × (report ≡ accepted_text c)
+
+-- the certificate is not balanced
+abbrev pub IsUnbalanced : Task → Content → Type 0
+IsUnbalanced task c = (charges : Charges) × (charged_by task ≡ Some charges) × (IsBalancedFor task charges c → ⊥)
+
+-- the report of a task's certificate, or why it has none
+abbrev pub IsJudged : Task → Content → Result (List ℕ) Stop → Type 0
+IsJudged task c (Ok report) = IsReportOf task c report
+IsJudged task c (Err NoMemory) = Unit {0}
+IsJudged task c (Err (NotAccepted code row)) = (code ≡ 0) × (row ≡ 0) × IsUnbalanced task c
+IsJudged task c (Err _) = ⊥
+
+-- what is said of an ending: itself, or that there was no memory for its line, which bad words do not take
+abbrev pub IsSaid : Result (List ℕ) Stop → Result (List ℕ) Stop → Type 0
+IsSaid ending said = (said ≡ ending) ⊎ ((said ≡ Err NoMemory) × (ending ≢ Err BadWords))
+
+-- the whole text is put, and the status answered
+pub record SaysPut (ending : Result (List ℕ) Stop) (status : ℕ) (old new : Option (List ℕ)) : Type 0 where
+  pub said : Result (List ℕ) Stop
+  pub is_said : IsSaid ending said
+  pub status_is : status ≡ status_of said
+  pub put : new ≡ append_known old (text_of said)
+
+-- a first part of it is put
+pub record SaysCutShort (ending : Result (List ℕ) Stop) (old new : Option (List ℕ)) : Type 0 where
+  pub said : Result (List ℕ) Stop
+  pub is_said : IsSaid ending said
+  pub put : PutsPrefix old new (text_of said)
+
+-- ---- words of the contract of a run
 
 pub record HasVerdict (status : ℕ) : Type 0 where
   pub no_read_fault : status ≢ 3
   pub no_write_fault : status ≢ 4
   pub enough_memory : status ≢ 5
 
-pub record OnlyRead {S : Type 0} (held : S → List ℕ → Told) (reads writes : S → ℕ) (old new : S) : Type 0 where
-  pub held_same : held new ≡ held old
-  pub later : reads old ≤ reads new
-  pub no_write_fault : writes new ≡ writes old
-
 abbrev pub IsAnswer : ℕ → Type 0
 IsAnswer status = Contains (0 ∷ 5 ∷ 6 ∷ 7 ∷ 8 ∷ []) status
 
-pub record IsTold (words : List (List ℕ)) (held : List ℕ → Told) (q : Names) (domain f : List ℕ) : Type 0 where
-  pub request : request_of words ≡ Some q
+pub record IsTold (words : List (Bor (List ℕ))) (held : List ℕ → Told) (q : Asked) (domain f : List ℕ) : Type 0 where
+  pub request : request_by words ≡ Some q
   pub domain_told : held q.domain ≡ Holds domain
   pub certificate_told : held q.certificate ≡ Holds f
 
-pub record Reported (domain f : List ℕ) (old new : Option (List ℕ)) : Type 0 where
+pub record PutsReport (domain f : List ℕ) (old new : Option (List ℕ)) : Type 0 where
   pub task : Task
   pub charges : Charges
   pub c : Content
-  pub thin : IsThin domain task charges
+  pub text_of_task : IsTextOfTask domain task charges
   pub decoded : IsDecoded f c
   pub balanced : IsBalancedFor task charges c
   pub encloses : EnclosesFor task charges c
   pub text : new ≡ append_known old (accepted_text c)
+
+pub record OnlyRead {S : Type 0} (held : S → List ℕ → Told) (reads writes : S → ℕ) (old new : S) : Type 0 where
+  pub held_same : held new ≡ held old
+  pub later : reads old ≤ reads new
+  pub no_write_fault : writes new ≡ writes old

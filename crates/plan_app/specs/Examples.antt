@@ -10,7 +10,7 @@ use Rattle.ppddl_model.specs.State.{State, no_atoms, with_atom}
 use Rattle.ppddl_model.specs.Steps.{Charges}
 use Rattle.ppddl_model.specs.Changing.{changing_atoms}
 use Rattle.ppddl_model.specs.examples.Coin.{flip, coin}
-use Rattle.plan_app.specs.Words.{request_of}
+use Rattle.plan_app.specs.Request.{request_of}
 use Rattle.plan_app.specs.Values.{row_state, low, high, act}
 
 -- ---- requests

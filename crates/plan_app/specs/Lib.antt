@@ -1,11 +1,12 @@
 pub mod Values
 pub mod Balanced
-pub mod Words
+pub mod Request
 pub mod Texts
-pub mod Verdict
+pub mod Stop
+pub mod Inputs
 pub mod Ending
 pub mod Bits
-pub mod Packed
-pub mod Table
+pub mod PackedTask
+pub mod RowTable
 pub mod Laws
 pub mod Examples

@@ -1,22 +1,24 @@
 //! Whether a certificate is balanced for the task of a thin text.
 //!
 //! The task is packed into plain numbers: a state is a number whose bit k says whether the atom of action k
-//! holds. Each row is then tested against the rows of its next states.
+//! holds. Each row is then tested against the rows of its next states. All of this goes with the checker over
+//! ground problems.
 
 ghost use Rattle.std.specs.Prelude.{◌≡◌, ◌↔◌, map, IfOk, IsTrue};
 ghost use Rattle.ppddl_reader.specs.ThinTask.{IsThinTask};
 ghost use Rattle.plan_app.specs.Balanced.{IsBalancedFor};
-ghost use Rattle.plan_app.specs.Table.{row_bits, IsBalancedBy};
+ghost use Rattle.plan_app.specs.RowTable.{row_bits, IsBalancedBy};
 
 mod bits;
-mod packed;
+mod packed_action;
+mod packed_goal;
+mod packed_task;
+mod row_table;
 mod rows;
-mod step;
-mod table;
 
-use crate::checker::packed::Packed;
+use crate::checker::packed_task::PackedTask;
+use crate::checker::row_table::RowTable;
 use crate::checker::rows::{are_balanced, is_interval};
-use crate::checker::table::Table;
 use certificate::Certificate;
 use ppddl_model::Task;
 use std::alloc::{AllocError, Global};
@@ -31,15 +33,20 @@ pub(crate) fn is_balanced(
     requires { IsThinTask task.now }
     ensures { IfOk result (λ balanced. IsTrue balanced ↔ IsBalancedFor task.now (record { penalty = penalty; step_cost = 0 }) certificate.now) }
 {
-    let packed = Packed::new(alloc, task)?;
-    match Table::new(alloc, packed.names.as_slice(), certificate.rows())? {
+    let packed = PackedTask::new(alloc, task)?;
+    match RowTable::new(alloc, packed.names.as_slice(), certificate.rows())? {
         None => Ok(false),
         Some(table) => Ok(is_balanced_by(&packed, &table, penalty, certificate)),
     }
 }
 
 /// Whether the penalty, each row and the interval are right, by the table of the rows.
-fn is_balanced_by(packed: &Packed, table: &Table, penalty: u64, certificate: &Certificate) -> bool
+fn is_balanced_by(
+    packed: &PackedTask,
+    table: &RowTable,
+    penalty: u64,
+    certificate: &Certificate,
+) -> bool
     requires { table.now.keys.items ≡ map (row_bits packed.now.names) certificate.now.rows }
     ensures { IsTrue result ↔ IsBalancedBy packed.now table.now penalty certificate.now }
 {

@@ -3,12 +3,13 @@
 
 mod check;
 mod checker;
-mod ending;
 mod laws;
 mod program;
 mod report;
+mod request;
 mod status;
-mod words;
+mod stop;
+mod units;
 
 pub use laws::certificate_laws;
 pub use program::run;

@@ -1,18 +1,38 @@
 //! The top call: all that the program does.
 
-ghost use Rattle.std.specs.Prelude.{◌≡◌, ◌≢◌, ◌⊎◌, ◌↔◌, ℕ, List, Some, None, map};
+ghost use Rattle.std.specs.Prelude.{◌≡◌, ◌≢◌, ◌⊎◌, ◌↔◌, ℕ, List};
 ghost use Rattle.std.specs.Io.KnownBytes.{append_known};
 ghost use Rattle.shelf_io.specs.Causes.{Rose};
 ghost use Rattle.shelf_io.specs.Shelf.{Holds};
 ghost use Rattle.shelf_io.specs.Streams.{PutsPrefix};
-ghost use Rattle.plan_app.specs.Words.{Names, spelled, Asks, AsksNothing};
-ghost use Rattle.plan_app.specs.declared.status.TheConstants.{ACCEPTED, BAD_WORDS, READ_FAILED, WRITE_FAILED, NO_MEMORY, REFUSED, NOT_ACCEPTED, LIMIT};
-ghost use Rattle.plan_app.specs.Verdict.{IsTooLong, IsRefused, IsAccepted, IsRejected};
-ghost use Rattle.plan_app.specs.Ending.{EndsOver, HasVerdict, IsMissing, IsAnswer, IsTold, Reported, OnlyRead, status_of, ending_text};
+ghost use Rattle.plan_app.specs.declared.status.TheConstants.{
+  ACCEPTED,
+  BAD_WORDS,
+  READ_FAILED,
+  WRITE_FAILED,
+  NO_MEMORY,
+  REFUSED,
+  NOT_ACCEPTED,
+  LIMIT,
+};
+ghost use Rattle.plan_app.specs.Request.{Asked, Asks, AsksNothing};
+ghost use Rattle.plan_app.specs.Inputs.{IsTooLong, IsRefused, IsAccepted, IsRejected};
+ghost use Rattle.plan_app.specs.Ending.{
+  MayEndAs,
+  HasVerdict,
+  IsMissing,
+  IsAnswer,
+  IsTold,
+  PutsReport,
+  OnlyRead,
+  SaysPut,
+  SaysCutShort,
+};
 
-use crate::check::ending_of;
-use crate::ending::Ending;
-use crate::status::WRITE_FAILED;
+use crate::check::report_of;
+use crate::status::{ACCEPTED, NO_MEMORY, WRITE_FAILED};
+use crate::stop::Stop;
+use plain_list::Bytes;
 use shelf_io::{Gate, Shelf, Sink, Source, put_all};
 use std::alloc::Global;
 use std::thread::Threads;
@@ -31,53 +51,73 @@ pub fn run<R: Threads + Sync, S: Shelf, I: Source + Send, O: Sink + Send, G: Gat
 ) -> u8
     // Where the status is none of 3, 4 and 5, it is exactly what the words and the bytes say.
     ensures bad_words { result ≢ WRITE_FAILED → (result ≡ BAD_WORDS) ↔ AsksNothing words.now }
-    ensures too_long { (q : Names) (domain : List ℕ) → Asks words.now q → S.held shelf.old q.domain ≡ Holds domain
+    ensures too_long { (q : Asked) (domain : List ℕ) → Asks words.now q
+        → S.held shelf.old q.domain ≡ Holds domain
         → HasVerdict result → (result ≡ LIMIT) ↔ IsTooLong domain }
-    ensures refused { (q : Names) (domain : List ℕ) → Asks words.now q → S.held shelf.old q.domain ≡ Holds domain
+    ensures refused { (q : Asked) (domain : List ℕ) → Asks words.now q
+        → S.held shelf.old q.domain ≡ Holds domain
         → HasVerdict result → (result ≡ REFUSED) ↔ IsRefused domain }
-    ensures accepted { (q : Names) (domain f : List ℕ) → IsTold (spelled words.now) (S.held shelf.old) q domain f
+    ensures accepted { (q : Asked) (domain f : List ℕ) → IsTold words.now (S.held shelf.old) q domain f
         → HasVerdict result → (result ≡ ACCEPTED) ↔ IsAccepted domain f }
-    ensures rejected { (q : Names) (domain f : List ℕ) → IsTold (spelled words.now) (S.held shelf.old) q domain f
+    ensures rejected { (q : Asked) (domain f : List ℕ) → IsTold words.now (S.held shelf.old) q domain f
         → HasVerdict result → (result ≡ NOT_ACCEPTED) ↔ IsRejected domain f }
 
     // The certificate that was accepted encloses, and its report was put.
-    ensures encloses { (q : Names) (domain f : List ℕ) → IsTold (spelled words.now) (S.held shelf.old) q domain f
-        → result ≡ ACCEPTED → Reported domain f (O.taken out.old) (O.taken out.new) }
+    ensures encloses { (q : Asked) (domain f : List ℕ) → IsTold words.now (S.held shelf.old) q domain f
+        → result ≡ ACCEPTED → PutsReport domain f (O.taken out.old) (O.taken out.new) }
 
     // When 3 and 4 come. Want of memory, 5, is free.
     ensures read_failed { result ≡ READ_FAILED → Rose (S.read_faults shelf.old) (S.read_faults shelf.new)
-        ⊎ ((q : Names) × Asks words.now q × IsMissing (S.held shelf.old) q) }
+        ⊎ ((q : Asked) × Asks words.now q × IsMissing (S.held shelf.old) q) }
     ensures write_failed { result ≡ WRITE_FAILED → Rose (O.faults out.old) (O.faults out.new) }
 
     // A request has an answer where no fault came and no name is missing.
-    ensures answered { (q : Names) → Asks words.now q → ¬ Rose (S.read_faults shelf.old) (S.read_faults shelf.new)
-        → ¬ Rose (O.faults out.old) (O.faults out.new) → ¬ IsMissing (S.held shelf.old) q → IsAnswer result }
+    ensures answered { (q : Asked) → Asks words.now q
+        → ¬ Rose (S.read_faults shelf.old) (S.read_faults shelf.new)
+        → ¬ Rose (O.faults out.old) (O.faults out.new)
+        → ¬ IsMissing (S.held shelf.old) q → IsAnswer result }
     ensures memory { result ≡ NO_MEMORY → O.taken out.new ≡ O.taken out.old }
 
     // What is put: the whole text of the ending, or after 4 a first part of it.
     ensures ends { result ≢ WRITE_FAILED → (text : List ℕ)
-        × EndsOver S.held S.read_faults words.now shelf.old shelf.new result text
+        × MayEndAs S.held S.read_faults words.now shelf.old shelf.new result text
         × (O.taken out.new ≡ append_known (O.taken out.old) text) }
     ensures cut_short { result ≡ WRITE_FAILED → (status : ℕ) × (text : List ℕ)
-        × EndsOver S.held S.read_faults words.now shelf.old shelf.new status text
+        × MayEndAs S.held S.read_faults words.now shelf.old shelf.new status text
         × PutsPrefix (O.taken out.old) (O.taken out.new) text }
 
     ensures shelf { OnlyRead S.held S.read_faults S.write_faults shelf.old shelf.new }
     ensures source { input.new ≡ input.old }
 {
-    let ending = ending_of(alloc, words, shelf);
-    put_ending(out, &ending)
+    let ending = report_of(alloc, words, shelf);
+    put_ending(alloc, out, ending)
 }
 
-/// Puts the text of the ending, and answers its status; 4 where the text was not put whole.
-fn put_ending<O: Sink>(out: &mut O, ending: &Ending) -> u8
-    ensures status { result ≢ WRITE_FAILED → result ≡ status_of ending.now }
-    ensures put { result ≢ WRITE_FAILED → O.taken out.new ≡ append_known (O.taken out.old) (ending_text ending.now) }
-    ensures cut_short { result ≡ WRITE_FAILED → PutsPrefix (O.taken out.old) (O.taken out.new) (ending_text ending.now) }
+/// Puts the report or the line of the stop, and answers the status; 4 where it was not put whole.
+fn put_ending<O: Sink>(alloc: Global, out: &mut O, ending: Result<Bytes, Stop>) -> u8
+    ensures put { result ≢ WRITE_FAILED → SaysPut ending result (O.taken out.old) (O.taken out.new) }
+    ensures cut_short { result ≡ WRITE_FAILED → SaysCutShort ending (O.taken out.old) (O.taken out.new) }
     ensures write_failed { result ≡ WRITE_FAILED → Rose (O.faults out.old) (O.faults out.new) }
 {
-    match put_all(out, ending.text()) {
-        Ok(()) => ending.status(),
+    match ending {
+        Ok(report) => put(out, report.as_slice(), ACCEPTED),
+        Err(stop) => match stop.line(alloc) {
+            Ok(line) => put(out, line.as_str().as_bytes(), stop.status()),
+            Err(_) => NO_MEMORY,
+        },
+    }
+}
+
+/// Puts the text, and answers the status; 4 where the text was not put whole.
+fn put<O: Sink>(out: &mut O, text: &[u8], status: u8) -> u8
+    requires { status ≢ WRITE_FAILED }
+    ensures status { result ≢ WRITE_FAILED → result ≡ status }
+    ensures put { result ≢ WRITE_FAILED → O.taken out.new ≡ append_known (O.taken out.old) text.now }
+    ensures cut_short { result ≡ WRITE_FAILED → PutsPrefix (O.taken out.old) (O.taken out.new) text.now }
+    ensures write_failed { result ≡ WRITE_FAILED → Rose (O.faults out.old) (O.faults out.new) }
+{
+    match put_all(out, text) {
+        Ok(()) => status,
         Err(_) => WRITE_FAILED,
     }
 }

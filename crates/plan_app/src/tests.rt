@@ -1,8 +1,9 @@
-//! Runs over memory forms: the worked rows, every status, and every call that may fail.
+//! Runs over memory forms: what is printed, every status, every call that may fail, and texts of some size.
 
 use crate::run;
 use shelf_io::{FreeGate, MemoryShelf, MemorySink, MemorySource};
 use std::alloc::{AllocError, Global};
+use std::fmt::Write;
 use std::process::Abort;
 use std::test::Fail;
 use std::thread::Threads;
@@ -59,90 +60,74 @@ fn check_run<R: Threads + Sync + Abort>(
     Ok(())
 }
 
-/// Certificates of the coin that are accepted, each with its report: the values themselves, with a row for the
-/// goal; values that are close, and far; giving up; no rows.
+/// Certificates of the coin, with the status and what is printed.
 #[test]
-fn certificates_that_are_accepted(rt: HostRuntime) -> Result<(), Fail> {
-    let rows: [(&[u8], &[u8]); 5] = [
+fn certificates_of_the_coin(rt: HostRuntime) -> Result<(), Fail> {
+    let rows: [(&[u8], u8, &[u8]); 9] = [
+        // The values themselves, with a row for the goal.
         (
             b"cert 1\npenalty 10000000\ninterval 2000000 2000000\nstates 2\n2000000 2000000 (flip) :\n0 0 goal : (done)\nend\n",
+            0,
             b"accepted\ninterval 2.000000 2.000000\nstates 2\n",
         ),
+        // Values that are close.
         (
             b"cert 1\npenalty 10000000\ninterval 1999999 2000001\nstates 1\n1999999 2000001 (flip) :\nend\n",
+            0,
             b"accepted\ninterval 1.999999 2.000001\nstates 1\n",
         ),
-        (
-            b"cert 1\npenalty 10000000\ninterval 0 9000000\nstates 1\n0 9000000 (flip) :\nend\n",
-            b"accepted\ninterval 0.000000 9.000000\nstates 1\n",
-        ),
-        (
-            b"cert 1\npenalty 10000000\ninterval 2000000 10000000\nstates 1\n2000000 10000000 give-up :\nend\n",
-            b"accepted\ninterval 2.000000 10.000000\nstates 1\n",
-        ),
+        // No rows: from 0 to the penalty.
         (
             b"cert 1\npenalty 10000000\ninterval 0 10000000\nstates 0\nend\n",
+            0,
             b"accepted\ninterval 0.000000 10.000000\nstates 0\n",
         ),
-    ];
-    for (certificate, report) in rows {
-        let files = [("coin", COIN), ("c", certificate)];
-        check_run(&rt, rt.alloc(), &CHECK, &files, (0, 0), (0, report))?;
-    }
-    Ok(())
-}
-
-#[test]
-fn certificates_that_are_not(rt: HostRuntime) -> Result<(), Fail> {
-    let rows: [&[u8]; 15] = [
         // A lower value that is too high.
-        b"cert 1\npenalty 10000000\ninterval 2000000 2000000\nstates 1\n2000001 2000000 (flip) :\nend\n",
-        // The same, with its interval.
-        b"cert 1\npenalty 10000000\ninterval 2000001 2000001\nstates 1\n2000001 2000001 (flip) :\nend\n",
+        (
+            b"cert 1\npenalty 10000000\ninterval 2000001 2000001\nstates 1\n2000001 2000001 (flip) :\nend\n",
+            7,
+            b"not accepted 0 0\n",
+        ),
         // An upper value that is too low.
-        b"cert 1\npenalty 10000000\ninterval 2000000 2000000\nstates 1\n2000000 1999999 (flip) :\nend\n",
-        // The same, with its interval.
-        b"cert 1\npenalty 10000000\ninterval 1999999 1999999\nstates 1\n1999999 1999999 (flip) :\nend\n",
-        // Giving up too cheaply.
-        b"cert 1\npenalty 10000000\ninterval 2000000 9999999\nstates 1\n2000000 9999999 give-up :\nend\n",
-        // Another penalty.
-        b"cert 1\npenalty 9000000\ninterval 2000000 2000000\nstates 1\n2000000 2000000 (flip) :\nend\n",
-        // An act that is none.
-        b"cert 1\npenalty 10000000\ninterval 2000000 2000000\nstates 1\n2000000 2000000 (hop) :\nend\n",
-        // A goal where there is none.
-        b"cert 1\npenalty 10000000\ninterval 2000000 2000000\nstates 1\n2000000 2000000 goal :\nend\n",
-        // A goal with a lower value.
-        b"cert 1\npenalty 10000000\ninterval 2000000 2000000\nstates 2\n2000000 2000000 (flip) :\n1 0 goal : (done)\nend\n",
-        // A goal with an upper value.
-        b"cert 1\npenalty 10000000\ninterval 2000000 2000000\nstates 2\n2000000 2000000 (flip) :\n0 1 goal : (done)\nend\n",
-        // A goal with another act.
-        b"cert 1\npenalty 10000000\ninterval 2000000 2000000\nstates 2\n2000000 2000000 (flip) :\n0 0 give-up : (done)\nend\n",
-        // An atom that is none.
-        b"cert 1\npenalty 10000000\ninterval 2000000 2000000\nstates 1\n2000000 2000000 (flip) : (lost)\nend\n",
-        // An interval from lower down.
-        b"cert 1\npenalty 10000000\ninterval 1999999 2000000\nstates 1\n2000000 2000000 (flip) :\nend\n",
-        // An interval to higher up.
-        b"cert 1\npenalty 10000000\ninterval 2000000 2000001\nstates 1\n2000000 2000000 (flip) :\nend\n",
-        // No text of a certificate.
-        b"",
+        (
+            b"cert 1\npenalty 10000000\ninterval 1999999 1999999\nstates 1\n1999999 1999999 (flip) :\nend\n",
+            7,
+            b"not accepted 0 0\n",
+        ),
+        // No text.
+        (b"", 7, b"not accepted 30 1\n"),
+        // A leading zero.
+        (
+            b"cert 1\npenalty 10000000\ninterval 02000000 2000000\nstates 0\nend\n",
+            7,
+            b"not accepted 30 3\n",
+        ),
+        // Rows that fall.
+        (
+            b"cert 1\npenalty 10000000\ninterval 2000000 2000000\nstates 2\n0 0 goal : (done)\n2000000 2000000 (flip) :\nend\n",
+            7,
+            b"not accepted 31 6\n",
+        ),
+        // A row too few.
+        (
+            b"cert 1\npenalty 10000000\ninterval 2000000 2000000\nstates 2\n2000000 2000000 (flip) :\nend\n",
+            7,
+            b"not accepted 32 6\n",
+        ),
     ];
-    for certificate in rows {
+    for (certificate, status, text) in rows {
         let files = [("coin", COIN), ("c", certificate)];
-        let wanted = (7, b"not accepted 0 0\n".as_slice());
-        check_run(&rt, rt.alloc(), &CHECK, &files, (0, 0), wanted)?;
+        check_run(&rt, rt.alloc(), &CHECK, &files, (0, 0), (status, text))?;
     }
     Ok(())
 }
 
+/// Words that ask for nothing.
 #[test]
-fn words_that_ask_for_nothing(rt: HostRuntime) -> Result<(), Fail> {
-    let rows: [&[&str]; 7] = [
+fn bad_words(rt: HostRuntime) -> Result<(), Fail> {
+    let rows: [&[&str]; 3] = [
         &[],
-        &["check", "coin"],
-        &["check", "coin", "--cert"],
-        &["check", "coin", "--cert", "c", "d"],
         &["check", "coin", "--cert", "-c"],
-        &["check", "", "--cert", "c"],
         &["solve", "coin", "--cert", "c"],
     ];
     for words in rows {
@@ -151,59 +136,70 @@ fn words_that_ask_for_nothing(rt: HostRuntime) -> Result<(), Fail> {
     Ok(())
 }
 
-/// The calls that fail: the first read, the second read and the put; there are no further ones.
+/// Calls of the shelf and of the sink that fail, and files that are missing, refused or too long. A certificate is asked
+/// for behind a text that is read alone.
 #[test]
-fn calls_that_fail(rt: HostRuntime) -> Result<(), Fail> {
-    let rows: [((u64, u64), u8, &[u8]); 6] = [
-        ((1, 0), 3, b"read failed\n"),
-        ((2, 0), 3, b"read failed\n"),
-        ((3, 0), 0, ACCEPTED),
-        ((0, 1), 4, b""),
-        ((0, 2), 0, ACCEPTED),
-        ((1, 1), 4, b""),
-    ];
-    for (failing, status, text) in rows {
-        check_run(&rt, rt.alloc(), &CHECK, &HELD, failing, (status, text))?;
-    }
-    Ok(())
-}
-
-/// Names that are not held, and texts that are refused before the certificate is looked for.
-#[test]
-fn files_that_are_missing_or_refused(rt: HostRuntime) -> Result<(), Fail> {
-    let rows: [(&str, &[u8], u8, &[u8]); 4] = [
-        ("coin", COIN, 3, b"read failed\n"),
-        ("c", BALANCED, 3, b"read failed\n"),
-        ("coin", b"", 6, b"refused 10 1:0\n"),
-        ("coin", b"(define (domain coin))", 6, b"refused 10 1:0\n"),
-    ];
-    for (name, bytes, status, text) in rows {
-        let files = [(name, bytes)];
-        check_run(&rt, rt.alloc(), &CHECK, &files, (0, 0), (status, text))?;
-    }
-    Ok(())
-}
-
-/// A text of one byte more than may be, and one of just as many.
-#[test]
-fn a_text_of_a_byte_too_many(rt: HostRuntime) -> Result<(), Fail> {
+fn files_and_calls(rt: HostRuntime) -> Result<(), Fail> {
     let alloc = rt.alloc();
-    let blanks = vec![in alloc; b' '; 1_048_577]?;
-    check_run(
-        &rt,
-        alloc,
-        &CHECK,
-        &[("coin", blanks.as_slice())],
-        (0, 0),
-        (8, b"limit 28 1048576\n"),
-    )?;
-    check_run(
-        &rt,
-        alloc,
-        &CHECK,
-        &[("coin", &blanks.as_slice()[1..])],
-        (0, 0),
-        (6, b"refused 10 1:0\n"),
-    )?;
+    let long = vec![in alloc; b' '; 1_048_577]?;
+    let coin: &[(&str, &[u8])] = &[("coin", COIN)];
+    let certificate: &[(&str, &[u8])] = &[("c", BALANCED)];
+    let cut: &[(&str, &[u8])] = &[("coin", b"(define (domain coin))")];
+    let blank: &[(&str, &[u8])] = &[("coin", &long.as_slice()[1..])];
+    let too_long: &[(&str, &[u8])] = &[("coin", long.as_slice())];
+    let rows: [(&[(&str, &[u8])], (u64, u64), u8, &[u8]); 13] = [
+        (&HELD, (1, 0), 3, b"read failed\n"),
+        (&HELD, (2, 0), 3, b"read failed\n"),
+        (&HELD, (3, 0), 0, ACCEPTED),
+        (&HELD, (0, 1), 4, b""),
+        (&HELD, (0, 2), 0, ACCEPTED),
+        (&HELD, (1, 1), 4, b""),
+        (coin, (0, 0), 3, b"read failed\n"),
+        (certificate, (0, 0), 3, b"read failed\n"),
+        (cut, (0, 0), 6, b"refused 10 1:0\n"),
+        // There is no second call.
+        (cut, (2, 0), 6, b"refused 10 1:0\n"),
+        (blank, (0, 0), 6, b"refused 10 1:0\n"),
+        (too_long, (0, 0), 8, b"limit 28 1048576\n"),
+        (too_long, (2, 0), 8, b"limit 28 1048576\n"),
+    ];
+    for (files, failing, status, text) in rows {
+        check_run(&rt, alloc, &CHECK, files, failing, (status, text))?;
+    }
+    Ok(())
+}
+
+/// With ample memory a text of 64 predicates, actions and facts is read, and a certificate with a row for each two of
+/// its atoms.
+#[test]
+fn many_atoms_and_rows(rt: HostRuntime) -> Result<(), Fail> {
+    let alloc = rt.alloc();
+    let mut text = String::from_str(alloc, "(define (domain many) (:predicates")?;
+    for k in 0..64u8 {
+        write!(text, " (p{k:02})")?;
+    }
+    text.push_str(")")?;
+    for k in 0..64u8 {
+        write!(text, "(:action a{k:02} :effect (and (decrease (reward) 1) (probabilistic 0.5 (p{k:02}))))")?;
+    }
+    text.push_str(") (define (problem all) (:domain many) (:init")?;
+    for k in 0..64u8 {
+        write!(text, " (p{k:02})")?;
+    }
+    text.push_str(") (:goal ()) (:goal-reward 10))")?;
+    let mut certificate = String::from_str(alloc, "cert 1\npenalty 10000000\ninterval 0 0\nstates 2016\n")?;
+    for i in 0..64u8 {
+        for j in i + 1..64 {
+            write!(certificate, "0 0 goal : (p{i:02}) (p{j:02})\n")?;
+        }
+    }
+    certificate.push_str("end\n")?;
+    let files = [
+        ("many", text.as_str().as_bytes()),
+        ("c", certificate.as_str().as_bytes()),
+    ];
+    let report = b"accepted\ninterval 0.000000 0.000000\nstates 2016\n";
+    let words = ["check", "many", "--cert", "c"];
+    check_run(&rt, alloc, &words, &files, (0, 0), (0, report))?;
     Ok(())
 }

@@ -1,14 +1,14 @@
 //! Whether the values and the acts of rows follow from the values of the next states.
 
 ghost use Rattle.std.specs.Prelude.{◌≡◌, ◌↔◌, map, IsTrue};
-ghost use Rattle.plan_app.specs.Table.{row_bits, upper_at, LowerFollows, UpperFollows, IsRowBalanced, AreBalanced, IsStartInterval};
+ghost use Rattle.plan_app.specs.RowTable.{row_bits, upper_at, LowerFollows, UpperFollows, IsRowBalanced, AreBalanced, IsStartInterval};
 
-use crate::checker::packed::Packed;
-use crate::checker::table::Table;
+use crate::checker::packed_task::PackedTask;
+use crate::checker::row_table::RowTable;
 use certificate::{Act, Certificate, Row};
 
 /// The upper value of a state.
-pub(super) fn upper(packed: &Packed, table: &Table, penalty: u64, bits: u64) -> u64
+pub(super) fn upper(packed: &PackedTask, table: &RowTable, penalty: u64, bits: u64) -> u64
     ensures { result ≡ upper_at packed.now table.now penalty bits }
 {
     if packed.goal.is_reached(bits) {
@@ -21,7 +21,7 @@ pub(super) fn upper(packed: &Packed, table: &Table, penalty: u64, bits: u64) -> 
 }
 
 /// Whether the lower value of a state is at most what each action costs from there.
-fn lower_follows(packed: &Packed, table: &Table, bits: u64, lower: u64) -> bool
+fn lower_follows(packed: &PackedTask, table: &RowTable, bits: u64, lower: u64) -> bool
     ensures { IsTrue result ↔ LowerFollows packed.now table.now bits lower }
 {
     for step in packed.steps.as_slice() {
@@ -34,7 +34,7 @@ fn lower_follows(packed: &Packed, table: &Table, bits: u64, lower: u64) -> bool
 }
 
 /// Whether the upper value of a state is at least what its act costs from there.
-fn upper_follows(packed: &Packed, table: &Table, penalty: u64, bits: u64, row: &Row) -> bool
+fn upper_follows(packed: &PackedTask, table: &RowTable, penalty: u64, bits: u64, row: &Row) -> bool
     ensures { IsTrue result ↔ UpperFollows packed.now table.now penalty bits row.now.upper row.now.act }
 {
     match &row.act {
@@ -51,7 +51,13 @@ fn upper_follows(packed: &Packed, table: &Table, penalty: u64, bits: u64, row: &
 }
 
 /// Whether the row of a state is balanced.
-fn is_row_balanced(packed: &Packed, table: &Table, penalty: u64, bits: u64, row: &Row) -> bool
+fn is_row_balanced(
+    packed: &PackedTask,
+    table: &RowTable,
+    penalty: u64,
+    bits: u64,
+    row: &Row,
+) -> bool
     ensures { IsTrue result ↔ IsRowBalanced packed.now table.now penalty bits row.now }
 {
     if packed.goal.is_reached(bits) {
@@ -63,7 +69,12 @@ fn is_row_balanced(packed: &Packed, table: &Table, penalty: u64, bits: u64, row:
 }
 
 /// Whether each row is balanced.
-pub(super) fn are_balanced(packed: &Packed, table: &Table, penalty: u64, rows: &[Row]) -> bool
+pub(super) fn are_balanced(
+    packed: &PackedTask,
+    table: &RowTable,
+    penalty: u64,
+    rows: &[Row],
+) -> bool
     requires { table.now.keys.items ≡ map (row_bits packed.now.names) rows.now }
     ensures { IsTrue result ↔ AreBalanced packed.now table.now penalty rows.now }
 {
@@ -77,8 +88,8 @@ pub(super) fn are_balanced(packed: &Packed, table: &Table, penalty: u64, rows: &
 
 /// Whether the interval of the certificate has the values of the start.
 pub(super) fn is_interval(
-    packed: &Packed,
-    table: &Table,
+    packed: &PackedTask,
+    table: &RowTable,
     penalty: u64,
     certificate: &Certificate,
 ) -> bool

@@ -1,40 +1,22 @@
 -- What stands under the name, by the laws of certificates' texts.
-use Rattle.std.proofs.Common.{rules, ◌≡◌, ◌<◌, ℕ, List, length, Ok, subst, sym}
-use Rattle.shelf_io.specs.Shelf.{MayHold}
+use Rattle.std.proofs.Common.{rules, refl}
 use Rattle.certificate.specs.Content.{most_bytes}
-use Rattle.certificate.specs.Reading.{read_of}
-use Rattle.certificate.specs.Answers.{Refuses}
-use Rattle.plan_app.specs.Ending.{CertificateStops}
-use Rattle.plan_app.proofs.Endings.{too_long_held, decoded_held, only_decoded, refusal_stops, none_longer}
+use Rattle.certificate.specs.declared.refusal.CertRefusal.TheVariants.{TooLong}
+use Rattle.plan_app.proofs.Endings.{too_long_held, certificate_held, rejected_with, refused_with}
 use Rattle.plan_app.proofs.check.read_certificate.Goals as goal
 
-pub returns-in-Ok-read-clause-certificate : goal.returns-in-Ok-read-clause-certificate
-returns-in-Ok-read-clause-certificate g c =
-    let held : MayHold (g.S.Shelf.held c.args.shelf.now c.args.request.now.certificate) c.in-Ok.bytes
-    = subst (λ name. MayHold (g.S.Shelf.held c.args.shelf.now name) c.in-Ok.bytes) c.certificate.ensures c.in-Ok.ensures.bytes in
-    let read : read_of c.in-Ok.bytes ≡ Ok c.in-Ok-read.certificate
-    = subst (λ b. read_of b ≡ Ok c.in-Ok-read.certificate) c.as_slice.ensures c.in-Ok-read.ensures.exact in
-    decoded_held c.text_laws.ensures.reads (g.S.Shelf.held c.args.shelf.now c.args.request.now.certificate) c.in-Ok.bytes c.in-Ok-read.certificate held c.in-Ok.ensures.within read
+pub returns-in_ok-read-in-Ok-clause-certificate : goal.returns-in_ok-read-in-Ok-clause-certificate
+returns-in_ok-read-in-Ok-clause-certificate g c =
+    certificate_held c.text_laws.ensures.reads _ c.in-Ok.bytes c.in_ok-read-in-Ok.field-0 (search rules) (search rules) (search rules)
 
-pub returns-in-Ok-read-clause-only : goal.returns-in-Ok-read-clause-only
-returns-in-Ok-read-clause-only g c =
-    let read : read_of c.in-Ok.bytes ≡ Ok c.in-Ok-read.certificate
-    = subst (λ b. read_of b ≡ Ok c.in-Ok-read.certificate) c.as_slice.ensures c.in-Ok-read.ensures.exact in
-    only_decoded c.text_laws.ensures.reads c.text_laws.ensures.texts_differ c.in-Ok.bytes c.in-Ok-read.certificate c.in-Ok.ensures.within read
-
-pub returns-in-Ok-clause-stop : goal.returns-in-Ok-clause-stop
-returns-in-Ok-clause-stop g c =
-    let held : MayHold (g.S.Shelf.held c.args.shelf.now c.args.request.now.certificate) c.in-Ok.bytes
-    = subst (λ name. MayHold (g.S.Shelf.held c.args.shelf.now name) c.in-Ok.bytes) c.certificate.ensures c.in-Ok.ensures.bytes in
-    let refuses : Refuses c.in-Err.refusal (read_of c.in-Ok.bytes)
-    = subst (λ b. Refuses c.in-Err.refusal (read_of b)) c.as_slice.ensures c.in-Err.ensures.exact in
-    subst (λ e. CertificateStops c.args.request.now (g.S.Shelf.held c.args.shelf.now) (g.S.Shelf.read_faults c.args.shelf.now) (g.S.Shelf.read_faults c.read.new.self) e)
-    (sym c.ending_of_refusal.ensures)
-    (refusal_stops c.text_laws.ensures.reads c.args.request.now (g.S.Shelf.held c.args.shelf.now) (g.S.Shelf.read_faults c.args.shelf.now) (g.S.Shelf.read_faults c.read.new.self)
-    c.in-Ok.bytes held c.in-Err.refusal refuses)
+pub returns-in_err-read-in-Ok-clause-stop : goal.returns-in_err-read-in-Ok-clause-stop
+returns-in_err-read-in-Ok-clause-stop g c =
+    let stop = refused_with g.S.Shelf.held g.S.Shelf.read_faults c.args.shelf.now c.read.new.self c.args.request.now c.text_laws.ensures.reads c.requires
+    c.in-Ok.bytes (search rules) c.in_err-read-in-Ok.field-0.0 (search rules) in
+    search (rules, stop)
 
 pub returns-in-Err-TooLong-clause-stop : goal.returns-in-Err-TooLong-clause-stop
 returns-in-Err-TooLong-clause-stop g c =
-    let over : (bytes : List ℕ) × MayHold (g.S.Shelf.held c.args.shelf.now c.certificate.result.now) bytes × (most_bytes < length bytes)
-    = too_long_held _ most_bytes c.read.result (search (rules, c.in-Err-TooLong.is, c.in-Err-TooLong.field-0-is)) c.read.ensures.missing c.read.ensures.too_long in
-    (over.0, subst (λ name. MayHold (g.S.Shelf.held c.args.shelf.now name) over.0) c.certificate.ensures over.1, none_longer over.0 over.2)
+    let long = too_long_held _ most_bytes c.read.result (search (rules, c.in-Err-TooLong.is, c.in-Err-TooLong.field-0-is)) c.read.ensures.missing c.read.ensures.too_long in
+    rejected_with g.S.Shelf.held g.S.Shelf.read_faults c.args.shelf.now c.read.new.self c.args.request.now c.text_laws.ensures.reads c.requires
+    long.0 (search (rules, long.1)) TooLong 33 0 ((c.text_laws.ensures.refuses_long long.0).1 long.2) refl refl

@@ -1,7 +1,7 @@
 use Rattle.std.proofs.Common.{ℕ, refl, sym, subst, get_or, arith}
 use Rattle.std.specs.Prelude.{Contains}
 use Rattle.std.proofs.lemmas.List.{take_all}
-use Rattle.plan_app.specs.Table.{row_bits, IsRowBalanced}
+use Rattle.plan_app.specs.RowTable.{row_bits, IsRowBalanced}
 use Rattle.plan_app.proofs.Rows.{each_more, bits_at}
 use Rattle.plan_app.proofs.checker.rows.are_balanced.Goals as goal
 

@@ -1,7 +1,7 @@
 use Rattle.std.proofs.Common.{take}
 use Rattle.std.specs.Prelude.{Contains}
 use Rattle.certificate.specs.declared.model.Row.{Row}
-use Rattle.plan_app.specs.Table.{row_bits, IsRowBalanced}
+use Rattle.plan_app.specs.RowTable.{row_bits, IsRowBalanced}
 use Rattle.plan_app.proofs.checker.rows.are_balanced.Given as goal
 
 abbrev pub invariant-loop-k : goal.invariant-loop-k

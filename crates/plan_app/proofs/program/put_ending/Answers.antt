@@ -1,0 +1,39 @@
+-- What is said of the ending: itself, or that there was no memory for its line.
+use Rattle.std.proofs.Common.{rules, inl, inr, refl, sym, ◌∙◌, Ok, Err}
+use Rattle.plan_app.specs.declared.stop.Stop.TheVariants.{NoMemory}
+use Rattle.plan_app.proofs.Statuses.{append_nothing}
+use Rattle.plan_app.proofs.program.put_ending.Goals as goal
+
+pub returns-in-Ok-clause-put : goal.returns-in-Ok-clause-put
+returns-in-Ok-clause-put g c = λ written. record {
+  said = Ok c.in-Ok.report;
+  is_said = inl (sym c.in-Ok.is);
+  status_is = c.put.ensures.status written;
+  put = search (rules, c.put.ensures.put written);
+}
+
+pub returns-in-Ok-clause-cut_short : goal.returns-in-Ok-clause-cut_short
+returns-in-Ok-clause-cut_short g c = λ four. record { said = Ok c.in-Ok.report; is_said = inl (sym c.in-Ok.is); put = search (rules, c.put.ensures.cut_short four) }
+
+pub returns-in-Ok-line-clause-put : goal.returns-in-Ok-line-clause-put
+returns-in-Ok-line-clause-put g c = λ written. record {
+  said = Err c.in-Err.stop;
+  is_said = inl (sym c.in-Err.is);
+  status_is = c.put-in-Ok-line.ensures.status written ∙ c.status.ensures;
+  put = search (rules, c.put-in-Ok-line.ensures.put written);
+}
+
+pub returns-in-Ok-line-clause-cut_short : goal.returns-in-Ok-line-clause-cut_short
+returns-in-Ok-line-clause-cut_short g c = λ four. record {
+  said = Err c.in-Err.stop;
+  is_said = inl (sym c.in-Err.is);
+  put = search (rules, c.put-in-Ok-line.ensures.cut_short four);
+}
+
+pub returns-in-Err-line-clause-put : goal.returns-in-Err-line-clause-put
+returns-in-Err-line-clause-put g c = λ written. record {
+  said = Err NoMemory;
+  is_said = inr (refl, λ bad. search (rules, c.in-Err-line.ensures.bad_words (cc (bad, c.in-Err.is))));
+  status_is = refl;
+  put = sym (append_nothing (g.O.Sink.taken c.args.out.now));
+}

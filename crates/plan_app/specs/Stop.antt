@@ -1,0 +1,34 @@
+-- Why a run has no report, and what is said then.
+--     stop_status stop     its status
+--     stop_text stop       its line
+--     status_of ending     the status of a report, or of the stop in its place
+--     text_of ending       the text that is put: the report, or the line
+use Rattle.std.specs.Prelude.{ℕ, List, [], ◌∷◌, ◌++◌, Result, Ok, Err, codes, decimal}
+use Rattle.ppddl_model.specs.Codes.{number_of}
+use Rattle.plan_app.specs.declared.stop.Stop.{Stop}
+use Rattle.plan_app.specs.declared.stop.Stop.TheVariants.{BadWords, ReadFailed, NoMemory, Limit, Refused, NotAccepted}
+use Rattle.plan_app.specs.Texts.{line}
+
+abbrev pub stop_status : Stop → ℕ
+stop_status BadWords = 2
+stop_status ReadFailed = 3
+stop_status NoMemory = 5
+stop_status (Refused code file at) = 6
+stop_status (NotAccepted code row) = 7
+stop_status (Limit code most) = 8
+
+abbrev pub stop_text : Stop → List ℕ
+stop_text BadWords = line (codes "bad words")
+stop_text ReadFailed = line (codes "read failed")
+stop_text NoMemory = []
+stop_text (Refused code file at) = line (codes "refused " ++ decimal (number_of code) ++ codes " " ++ decimal file ++ codes ":" ++ decimal at)
+stop_text (NotAccepted code row) = line (codes "not accepted " ++ decimal code ++ codes " " ++ decimal row)
+stop_text (Limit code most) = line (codes "limit " ++ decimal code ++ codes " " ++ decimal most)
+
+abbrev pub status_of : Result (List ℕ) Stop → ℕ
+status_of (Ok report) = 0
+status_of (Err stop) = stop_status stop
+
+abbrev pub text_of : Result (List ℕ) Stop → List ℕ
+text_of (Ok report) = report
+text_of (Err stop) = stop_text stop
