@@ -1,6 +1,6 @@
 -- The rows of a certificate are balanced for a thin task exactly where they are so in packed form.
 use Rattle.std.proofs.Common.{◌≡◌, ◌≢◌, ℕ, ◌+◌, ◌*◌, ◌≤◌, Bool, true, false, cond, List, [], ◌∷◌, map, Option, Some, None, refl, sym, ap, subst, ◌∙◌, inl, inr, eq-eqb, arith}
-use Rattle.std.specs.Prelude.{Contains, filter, MatchBool}
+use Rattle.std.specs.Prelude.{Contains, MatchBool}
 use Rattle.std.specs.List.{AllZip}
 use Rattle.std.proofs.lemmas.Bool.{ne_eqb}
 use Rattle.std.proofs.lemmas.Bool.Decides.{when_true, when_false}
@@ -16,7 +16,7 @@ use Rattle.ppddl_model.specs.declared.tree.Param.{Param}
 use Rattle.ppddl_model.specs.declared.tree.Task.{Task}
 use Rattle.ppddl_model.specs.State.{Name, same_name, State, with_atom, same_state}
 use Rattle.ppddl_model.specs.Objects.{bound}
-use Rattle.ppddl_model.specs.Steps.{Instance, instance_name, instances, open_instances, is_goal, step, step_den, process}
+use Rattle.ppddl_model.specs.Steps.{Instance, instance_name, open_instances, is_goal, step, step_den, process}
 use Rattle.ppddl_model.proofs.States.{same_state-Decides}
 use Rattle.ppddl_reader.specs.ThinTask.{IsThinTask}
 use Rattle.plan_app.specs.declared.checker.packed_task.PackedTask.{PackedTask}

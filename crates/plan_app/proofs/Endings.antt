@@ -2,8 +2,8 @@
 use Rattle.std.proofs.Common.{◌≡◌, ℕ, ◌+◌, ◌<◌, ◌≤◌, ◌⊎◌, inl, inr, List, length, replicate, refl, sym, ap, ◌∙◌, subst, arith, Option, Some, None, Result, Ok, Err}
 use Rattle.std.proofs.Math.ListN.{length-replicate}
 use Rattle.shelf_io.specs.Shelf.{Told, Untold, Missing, Holds, MayHold}
-use Rattle.shelf_io.specs.declared.fault.ShelfFault.{ShelfFault}
-use Rattle.shelf_io.specs.declared.fault.ShelfFault.TheVariants as fault
+use Rattle.shelf_io.specs.declared.shelf_fault.ShelfFault.{ShelfFault}
+use Rattle.shelf_io.specs.declared.shelf_fault.ShelfFault.TheVariants as fault
 use Rattle.certificate.specs.Content.{Content, most_bytes}
 use Rattle.certificate.specs.Laws.{ReadsTexts}
 use Rattle.certificate.specs.Reading.{read_of}
@@ -124,8 +124,8 @@ module _ {S : Type 0} (held : S → List ℕ → Told) (reads : S → ℕ) (old 
           text.charges,
           text.text,
           λ d is balanced.
-          let same : text.charges ≡ charges = cc (charged, text.text.charged) in
-          unbalanced (subst (λ p. IsBalancedFor task p c) same (subst (IsBalancedFor task text.charges) (certificate.only d is) balanced)),
+              let same : text.charges ≡ charges = cc (charged, text.text.charged) in
+              unbalanced (subst (λ p. IsBalancedFor task p c) same (subst (IsBalancedFor task text.charges) (certificate.only d is) balanced)),
         );
         code_is = code_is ∙ ap code_of (sym certificate.read);
         row_is = row_is ∙ ap row_of (sym certificate.read);

@@ -1,9 +1,8 @@
 -- What the status says of the words and of the texts, from how the run may end.
-use Rattle.std.proofs.Common.{◌≡◌, ◌≢◌, ℕ, ◌⊎◌, inl, inr, List, [], refl, sym, ap, ◌∙◌, subst, arith, Option, Some, None, Ok, Err, Result}
+use Rattle.std.proofs.Common.{◌≡◌, ◌≢◌, ℕ, ◌⊎◌, inl, inr, List, refl, sym, ap, ◌∙◌, subst, arith, Option, Some, None, Ok, Err, Result}
 use Rattle.std.specs.Prelude.{◌↔◌}
-use Rattle.std.proofs.lemmas.List.{append-nil}
 use Rattle.std.specs.Borrow.{Bor}
-use Rattle.std.specs.Io.KnownBytes.{append_known}
+use Rattle.std.specs.Io.KnownBytes.{Appends}
 use Rattle.shelf_io.specs.Causes.{Rose}
 use Rattle.shelf_io.specs.Shelf.{Told, Holds, MayHold}
 use Rattle.shelf_io.specs.Streams.{PutsPrefix}
@@ -104,14 +103,12 @@ module _ {S : Type 0} (held : S → List ℕ → Told) (reads : S → ℕ) (old 
         let long : IsTooLong domain = subst IsTooLong (told_held _ domain d told holds) above.too_long in
         (no 8 6 (IsRefused domain) (λ is. omega (arith, is)) (λ refused. not_refused_and_long domain refused long), yes 8 (IsTooLong domain) long)
     text_verdict (Err (NotAccepted code row)) (d, f, holds, also, at) verdict =
-        let rejected : IsRejected domain f = subst (λ text. IsRejected text f) (told_held _ domain d told holds) at.rejected in
-        (
+        let rejected : IsRejected domain f = subst (λ text. IsRejected text f) (told_held _ domain d told holds) at.rejected in (
           no 7 6 (IsRefused domain) (λ is. omega (arith, is)) (not_rejected_and_refused domain f rejected),
           no 7 8 (IsTooLong domain) (λ is. omega (arith, is)) (not_rejected_and_long domain f rejected),
         )
     text_verdict (Ok report) ends verdict =
-        let text = text_at ends.task ends.may_hold in
-        (
+        let text = text_at ends.task ends.may_hold in (
           no 0 6 (IsRefused domain) (λ is. omega (arith, is)) (not_task_and_refused domain _ _ text),
           no 0 8 (IsTooLong domain) (λ is. omega (arith, is)) (not_task_and_long domain _ _ text),
         )
@@ -127,33 +124,30 @@ module _ {S : Type 0} (held : S → List ℕ → Told) (reads : S → ℕ) (old 
       certificate_verdict (Err ReadFailed) ends verdict = absurd (verdict.no_read_fault refl)
       certificate_verdict (Err NoMemory) ends verdict = absurd (verdict.enough_memory refl)
       certificate_verdict (Err (Refused code file line)) (d, holds, at) verdict =
-          let refused : IsRefused domain = subst IsRefused (told_held _ domain d told holds) at.refused in
-          (
+          let refused : IsRefused domain = subst IsRefused (told_held _ domain d told holds) at.refused in (
             no 6 0 (IsAccepted domain f) (λ is. omega (arith, is)) (λ accepted. not_accepted_and_refused domain f accepted refused),
             no 6 7 (IsRejected domain f) (λ is. omega (arith, is)) (λ rejected. not_rejected_and_refused domain f rejected refused),
           )
       certificate_verdict (Err (Limit code most)) (d, holds, above) verdict =
-          let long : IsTooLong domain = subst IsTooLong (told_held _ domain d told holds) above.too_long in
-          (
+          let long : IsTooLong domain = subst IsTooLong (told_held _ domain d told holds) above.too_long in (
             no 8 0 (IsAccepted domain f) (λ is. omega (arith, is)) (λ accepted. not_accepted_and_long domain f accepted long),
             no 8 7 (IsRejected domain f) (λ is. omega (arith, is)) (λ rejected. not_rejected_and_long domain f rejected long),
           )
       certificate_verdict (Err (NotAccepted code row)) (d, g, holds, also, at) verdict =
           let there : IsRejected domain g = subst (λ text. IsRejected text g) (told_held _ domain d told holds) at.rejected in
-          let rejected : IsRejected domain f = subst (λ bytes. IsRejected domain bytes) (told_held _ f g also_told also) there in
-          (
+          let rejected : IsRejected domain f = subst (λ bytes. IsRejected domain bytes) (told_held _ f g also_told also) there in (
             no 7 0 (IsAccepted domain f) (λ is. omega (arith, is)) (λ accepted. not_accepted_and_rejected domain f accepted rejected),
             yes 7 (IsRejected domain f) rejected,
           )
       certificate_verdict (Ok report) ends verdict =
           let text = text_at ends.task ends.may_hold in
           let accepted : IsAccepted domain f =
-              (ends.task, ends.may_hold.charges, ends.c, text, decoded_at ends.f ends.c ends.certificate_held ends.decoded, ends.balanced) in
+          (ends.task, ends.may_hold.charges, ends.c, text, decoded_at ends.f ends.c ends.certificate_held ends.decoded, ends.balanced) in
           (yes 0 (IsAccepted domain f) accepted, no 0 7 (IsRejected domain f) (λ is. omega (arith, is)) (not_accepted_and_rejected domain f accepted))
 
       -- the report of a certificate that was accepted
       report_at : (e : Result (List ℕ) Stop) (before now : Option (List ℕ)) → MayEndRequest held reads old new q e → status_of e ≡ 0
-          → now ≡ append_known before (text_of e) → PutsReport domain f before now
+          → Appends before now (text_of e) → PutsReport domain f before now
       report_at (Ok report) before now ends is put = record {
         task = ends.task;
         charges = ends.may_hold.charges;
@@ -162,7 +156,7 @@ module _ {S : Type 0} (held : S → List ℕ → Told) (reads : S → ℕ) (old 
         decoded = decoded_at ends.f ends.c ends.certificate_held ends.decoded;
         balanced = ends.balanced;
         encloses = balanced_encloses_for ends.task ends.may_hold.charges ends.c (start_den_positive ends.task ends.shape) ends.balanced;
-        text = put ∙ ap (append_known before) ends.text;
+        text = subst (Appends before now) ends.text put;
       }
       report_at (Err BadWords) before now ends is put = absurd ends
       report_at (Err _) before now ends is put = absurd (omega (arith, is))
@@ -184,15 +178,6 @@ module _ {S : Type 0} (held : S → List ℕ → Told) (reads : S → ℕ) (old 
   said_may_end request e said ends (inl same) = subst (MayEnd held reads old new request) (sym same) ends
   said_may_end None e said ends (inr none) = absurd (none.1 ends)
   said_may_end (Some q) e said ends (inr none) = subst (MayEndRequest held reads old new q) (sym none.0) tt
-
-pub append_nothing : (old : Option (List ℕ)) → append_known old [] ≡ old
-append_nothing None = refl
-append_nothing (Some bytes) = ap (λ b. Some b) (append-nil bytes)
-
-nothing_more : (e : Result (List ℕ) Stop) → status_of e ≡ 5 → text_of e ≡ []
-nothing_more (Err NoMemory) is = refl
-nothing_more (Ok report) is = absurd (omega (arith, is))
-nothing_more (Err _) is = absurd (omega (arith, is))
 
 -- ---- the clauses of the top call
 
@@ -254,17 +239,13 @@ module _ {S : Type 0} {held : S → List ℕ → Told} {reads : S → ℕ} {word
         exactly 7 (IsRejected domain f)
         (certificate_verdict held reads old new q domain told.domain_told f told.certificate_told ends.ending (request_ends q told.request) (verdict_of verdict)).1
 
-    pub reported : (before now : Option (List ℕ)) → status ≡ 0 → now ≡ append_known before text → PutsReport domain f before now
+    pub reported : (before now : Option (List ℕ)) → status ≡ 0 → Appends before now text → PutsReport domain f before now
     reported before now zero put =
         report_at held reads old new q domain told.domain_told f told.certificate_told ends.ending before now (request_ends q told.request)
-        (sym ends.status_is ∙ zero) (put ∙ ap (append_known before) ends.text_is)
+        (sym ends.status_is ∙ zero) (subst (Appends before now) ends.text_is put)
 
   pub read_failed_only : status ≡ 3 → Rose (reads old) (reads new) ⊎ ((q : Asked) × (request_by words ≡ Some q) × IsMissing (held old) q)
   read_failed_only three = read_failed_for held reads old new (request_by words) ends.ending ends.may_end (sym ends.status_is ∙ three)
 
   pub answered : (q : Asked) → request_by words ≡ Some q → (Rose (reads old) (reads new) → ⊥) → (IsMissing (held old) q → ⊥) → IsAnswer status
   answered q asks rose missing = subst IsAnswer (sym ends.status_is) (answer held reads old new q ends.ending (request_ends q asks) rose missing)
-
-  pub memory_puts_nothing : (before now : Option (List ℕ)) → now ≡ append_known before text → status ≡ 5 → now ≡ before
-  memory_puts_nothing before now put five =
-      put ∙ ap (append_known before) (ends.text_is ∙ nothing_more ends.ending (sym ends.status_is ∙ five)) ∙ append_nothing before

@@ -1,5 +1,5 @@
 -- What the format strings of the reports write.
-use Rattle.std.proofs.Common.{◌≡◌, ℕ, ◌-◌, ◌^◌, ◌/◌, ◌%◌, [], ◌∷◌, ◌++◌, length, append_assoc, refl, ap, arith}
+use Rattle.std.proofs.Common.{◌≡◌, ℕ, ◌-◌, ◌^◌, ◌/◌, ◌%◌, ◌∷◌, ◌++◌, length, append_assoc, refl, ap, arith}
 use Rattle.std.specs.Prelude.{decimal, replicate, codes}
 use Rattle.std.specs.Fmt.{styled_decimal, padded_integral, format_spec, char_count}
 use Rattle.std.proofs.lemmas.List.{append-nil}

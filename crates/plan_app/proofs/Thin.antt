@@ -1,6 +1,6 @@
 -- What the definitions say of a thin task.
 use Rattle.std.proofs.Common.{◌≡◌, ℕ, zero, suc, ◌+◌, ◌*◌, ◌/◌, ◌^◌, ◌<◌, ◌≤◌, Bool, true, false, cond, ◌||◌, List, [], ◌∷◌, ◌++◌, map, refl, sym, ap, subst, ◌∙◌, arith}
-use Rattle.std.specs.Prelude.{Contains, filter, All}
+use Rattle.std.specs.Prelude.{Contains, All}
 use Rattle.std.specs.Int.{◌∣◌}
 use Rattle.std.specs.List.{flat_map, list_any, AllZip}
 use Rattle.std.proofs.Math.Nat.{div-mul_cancel, pow-zero}

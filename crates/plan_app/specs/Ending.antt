@@ -13,7 +13,7 @@
 -- Where a shelf does not tell what it holds, "the shelf holds" is read as "it may hold".
 use Rattle.std.specs.Prelude.{◌≡◌, ◌≢◌, ◌≤◌, ◌⊎◌, ℕ, List, [], ◌∷◌, Option, Some, None, Result, Ok, Err, Contains}
 use Rattle.std.specs.Borrow.{Bor}
-use Rattle.std.specs.Io.KnownBytes.{append_known}
+use Rattle.std.specs.Io.KnownBytes.{Appends}
 use Rattle.shelf_io.specs.Causes.{Rose}
 use Rattle.shelf_io.specs.Shelf.{Told, Missing, Holds, MayHold}
 use Rattle.shelf_io.specs.Streams.{PutsPrefix}
@@ -117,7 +117,7 @@ pub record SaysPut (ending : Result (List ℕ) Stop) (status : ℕ) (old new : O
   pub said : Result (List ℕ) Stop
   pub is_said : IsSaid ending said
   pub status_is : status ≡ status_of said
-  pub put : new ≡ append_known old (text_of said)
+  pub put : Appends old new (text_of said)
 
 -- a first part of it is put
 pub record SaysCutShort (ending : Result (List ℕ) Stop) (old new : Option (List ℕ)) : Type 0 where
@@ -148,7 +148,7 @@ pub record PutsReport (domain f : List ℕ) (old new : Option (List ℕ)) : Type
   pub decoded : IsDecoded f c
   pub balanced : IsBalancedFor task charges c
   pub encloses : EnclosesFor task charges c
-  pub text : new ≡ append_known old (accepted_text c)
+  pub text : Appends old new (accepted_text c)
 
 pub record OnlyRead {S : Type 0} (held : S → List ℕ → Told) (reads writes : S → ℕ) (old new : S) : Type 0 where
   pub held_same : held new ≡ held old

@@ -3,7 +3,7 @@
 --     stop_text stop       its line
 --     status_of ending     the status of a report, or of the stop in its place
 --     text_of ending       the text that is put: the report, or the line
-use Rattle.std.specs.Prelude.{ℕ, List, [], ◌∷◌, ◌++◌, Result, Ok, Err, codes, decimal}
+use Rattle.std.specs.Prelude.{ℕ, List, [], ◌++◌, Result, Ok, Err, codes, decimal}
 use Rattle.ppddl_model.specs.Codes.{number_of}
 use Rattle.plan_app.specs.declared.stop.Stop.{Stop}
 use Rattle.plan_app.specs.declared.stop.Stop.TheVariants.{BadWords, ReadFailed, NoMemory, Limit, Refused, NotAccepted}

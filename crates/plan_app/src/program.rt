@@ -1,7 +1,7 @@
 //! The top call: all that the program does.
 
 ghost use Rattle.std.specs.Prelude.{◌≡◌, ◌≢◌, ◌⊎◌, ◌↔◌, ℕ, List};
-ghost use Rattle.std.specs.Io.KnownBytes.{append_known};
+ghost use Rattle.std.specs.Io.KnownBytes.{Appends};
 ghost use Rattle.shelf_io.specs.Causes.{Rose};
 ghost use Rattle.shelf_io.specs.Shelf.{Holds};
 ghost use Rattle.shelf_io.specs.Streams.{PutsPrefix};
@@ -39,7 +39,8 @@ use std::thread::Threads;
 
 /// Runs the program with the words behind its name, and answers its status.
 ///
-/// Today's one command is `check DOMAIN --cert F`. It changes nothing on the shelf and leaves the input alone.
+/// The one command of today is `check DOMAIN --cert F`. It changes nothing on the shelf and leaves
+/// the input alone.
 pub fn run<R: Threads + Sync, S: Shelf, I: Source + Send, O: Sink + Send, G: Gate>(
     rt: &R,
     alloc: Global,
@@ -57,17 +58,21 @@ pub fn run<R: Threads + Sync, S: Shelf, I: Source + Send, O: Sink + Send, G: Gat
     ensures refused { (q : Asked) (domain : List ℕ) → Asks words.now q
         → S.held shelf.old q.domain ≡ Holds domain
         → HasVerdict result → (result ≡ REFUSED) ↔ IsRefused domain }
-    ensures accepted { (q : Asked) (domain f : List ℕ) → IsTold words.now (S.held shelf.old) q domain f
+    ensures accepted { (q : Asked) (domain f : List ℕ)
+        → IsTold words.now (S.held shelf.old) q domain f
         → HasVerdict result → (result ≡ ACCEPTED) ↔ IsAccepted domain f }
-    ensures rejected { (q : Asked) (domain f : List ℕ) → IsTold words.now (S.held shelf.old) q domain f
+    ensures rejected { (q : Asked) (domain f : List ℕ)
+        → IsTold words.now (S.held shelf.old) q domain f
         → HasVerdict result → (result ≡ NOT_ACCEPTED) ↔ IsRejected domain f }
 
     // The certificate that was accepted encloses, and its report was put.
-    ensures encloses { (q : Asked) (domain f : List ℕ) → IsTold words.now (S.held shelf.old) q domain f
+    ensures encloses { (q : Asked) (domain f : List ℕ)
+        → IsTold words.now (S.held shelf.old) q domain f
         → result ≡ ACCEPTED → PutsReport domain f (O.taken out.old) (O.taken out.new) }
 
     // When 3 and 4 come. Want of memory, 5, is free.
-    ensures read_failed { result ≡ READ_FAILED → Rose (S.read_faults shelf.old) (S.read_faults shelf.new)
+    ensures read_failed { result ≡ READ_FAILED
+        → Rose (S.read_faults shelf.old) (S.read_faults shelf.new)
         ⊎ ((q : Asked) × Asks words.now q × IsMissing (S.held shelf.old) q) }
     ensures write_failed { result ≡ WRITE_FAILED → Rose (O.faults out.old) (O.faults out.new) }
 
@@ -81,7 +86,7 @@ pub fn run<R: Threads + Sync, S: Shelf, I: Source + Send, O: Sink + Send, G: Gat
     // What is put: the whole text of the ending, or after 4 a first part of it.
     ensures ends { result ≢ WRITE_FAILED → (text : List ℕ)
         × MayEndAs S.held S.read_faults words.now shelf.old shelf.new result text
-        × (O.taken out.new ≡ append_known (O.taken out.old) text) }
+        × Appends (O.taken out.old) (O.taken out.new) text }
     ensures cut_short { result ≡ WRITE_FAILED → (status : ℕ) × (text : List ℕ)
         × MayEndAs S.held S.read_faults words.now shelf.old shelf.new status text
         × PutsPrefix (O.taken out.old) (O.taken out.new) text }
@@ -95,8 +100,11 @@ pub fn run<R: Threads + Sync, S: Shelf, I: Source + Send, O: Sink + Send, G: Gat
 
 /// Puts the report or the line of the stop, and answers the status; 4 where it was not put whole.
 fn put_ending<O: Sink>(alloc: Global, out: &mut O, ending: Result<Bytes, Stop>) -> u8
-    ensures put { result ≢ WRITE_FAILED → SaysPut ending result (O.taken out.old) (O.taken out.new) }
-    ensures cut_short { result ≡ WRITE_FAILED → SaysCutShort ending (O.taken out.old) (O.taken out.new) }
+    ensures put { result ≢ WRITE_FAILED
+        → SaysPut ending result (O.taken out.old) (O.taken out.new) }
+    ensures cut_short { result ≡ WRITE_FAILED
+        → SaysCutShort ending (O.taken out.old) (O.taken out.new) }
+    ensures memory { result ≡ NO_MEMORY → O.taken out.new ≡ O.taken out.old }
     ensures write_failed { result ≡ WRITE_FAILED → Rose (O.faults out.old) (O.faults out.new) }
 {
     match ending {
@@ -112,8 +120,10 @@ fn put_ending<O: Sink>(alloc: Global, out: &mut O, ending: Result<Bytes, Stop>) 
 fn put<O: Sink>(out: &mut O, text: &[u8], status: u8) -> u8
     requires { status ≢ WRITE_FAILED }
     ensures status { result ≢ WRITE_FAILED → result ≡ status }
-    ensures put { result ≢ WRITE_FAILED → O.taken out.new ≡ append_known (O.taken out.old) text.now }
-    ensures cut_short { result ≡ WRITE_FAILED → PutsPrefix (O.taken out.old) (O.taken out.new) text.now }
+    ensures put { result ≢ WRITE_FAILED
+        → Appends (O.taken out.old) (O.taken out.new) text.now }
+    ensures cut_short { result ≡ WRITE_FAILED
+        → PutsPrefix (O.taken out.old) (O.taken out.new) text.now }
     ensures write_failed { result ≡ WRITE_FAILED → Rose (O.faults out.old) (O.faults out.new) }
 {
     match put_all(out, text) {

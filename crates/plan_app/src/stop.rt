@@ -1,6 +1,6 @@
 //! Why a run has no report.
 
-ghost use Rattle.std.specs.Prelude.{◌≡◌, IfOk, IsOk};
+ghost use Rattle.std.specs.Prelude.{◌≡◌, IfOk, IsOk, IsErr};
 ghost use Rattle.std.specs.Cow.{cow_str_bytes};
 ghost use Rattle.plan_app.specs.Stop.{stop_status, stop_text};
 ghost use Rattle.plan_app.specs.Inputs.{stop_of_text, stop_of_certificate};
@@ -12,7 +12,7 @@ use ppddl_model::{TextCode, TextRefusal};
 use std::alloc::{AllocError, Global};
 use std::borrow::CowStr;
 
-/// What stops a run before it has a report. A refusal has the code and the place that it arose with.
+/// What stops a run before it has a report. A refusal has the code and the place with which it arose.
 #[derive(Clone, Copy, Debug)]
 pub(crate) enum Stop {
     /// The words have no request.
@@ -25,7 +25,8 @@ pub(crate) enum Stop {
     Limit { code: u8, most: u64 },
     /// The planning text is not one that is read.
     Refused { code: TextCode, file: u8, line: u32 },
-    /// The bytes are no text of a balanced certificate. The row is a line of the text where the bytes are no certificate.
+    /// The bytes are no text of a balanced certificate. The row is a line of the text where the bytes
+    /// are no certificate.
     NotAccepted { code: u8, row: u32 },
 }
 
@@ -44,15 +45,17 @@ impl Stop {
         }
     }
 
-    /// The line that is put, with its line feed; nothing at want of memory. A line without numbers takes no memory.
+    /// The line that is put, with its line feed. Want of memory has none, and a line without numbers
+    /// takes no memory.
     pub(crate) fn line(self, alloc: Global) -> Result<CowStr<'static>, AllocError>
         ensures text { IfOk result (λ line. cow_str_bytes line ≡ stop_text self) }
         ensures bad_words { self ≡ BadWords → IsOk result }
+        ensures no_memory { self ≡ NoMemory → IsErr result }
     {
         let line = match self {
             Stop::BadWords => return Ok(CowStr::Borrowed("bad words\n")),
             Stop::ReadFailed => return Ok(CowStr::Borrowed("read failed\n")),
-            Stop::NoMemory => return Ok(CowStr::Borrowed("")),
+            Stop::NoMemory => return Err(AllocError),
             Stop::Refused { code, file, line } => {
                 let code = code.number();
                 format!(in alloc; "refused {code} {file}:{line}\n")?

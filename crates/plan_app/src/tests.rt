@@ -1,4 +1,5 @@
-//! Runs over memory forms: what is printed, every status, every call that may fail, and texts of some size.
+//! Runs over memory forms: what is printed, every status, every call that may fail, and texts of
+//! some size.
 
 use crate::run;
 use shelf_io::{FreeGate, MemoryShelf, MemorySink, MemorySource};
@@ -29,10 +30,13 @@ const ACCEPTED: &[u8] = b"accepted\ninterval 2.000000 2.000000\nstates 1\n";
 /// The files of a run that accepts.
 const HELD: [(&str, &[u8]); 2] = [("coin", COIN), ("c", BALANCED)];
 
+/// A domain without a problem.
+const CUT: [(&str, &[u8]); 1] = [("coin", b"(define (domain coin))")];
+
 const CHECK: [&str; 4] = ["check", "coin", "--cert", "c"];
 
-/// Runs on a shelf with these files, where these calls of the shelf and of the sink fail (0 for none), and
-/// checks the status and what was put.
+/// Runs on a shelf with these files, where these calls of the shelf and of the sink fail (0 for
+/// none), and checks the status and what was put.
 fn check_run<R: Threads + Sync + Abort>(
     rt: &R,
     alloc: Global,
@@ -136,41 +140,46 @@ fn bad_words(rt: HostRuntime) -> Result<(), Fail> {
     Ok(())
 }
 
-/// Calls of the shelf and of the sink that fail, and files that are missing, refused or too long. A certificate is asked
-/// for behind a text that is read alone.
+/// Calls of the shelf and of the sink that fail, and files that are missing or refused. A certificate
+/// is asked for behind a text that is read alone.
 #[test]
 fn files_and_calls(rt: HostRuntime) -> Result<(), Fail> {
-    let alloc = rt.alloc();
-    let long = vec![in alloc; b' '; 1_048_577]?;
-    let coin: &[(&str, &[u8])] = &[("coin", COIN)];
-    let certificate: &[(&str, &[u8])] = &[("c", BALANCED)];
-    let cut: &[(&str, &[u8])] = &[("coin", b"(define (domain coin))")];
-    let blank: &[(&str, &[u8])] = &[("coin", &long.as_slice()[1..])];
-    let too_long: &[(&str, &[u8])] = &[("coin", long.as_slice())];
-    let rows: [(&[(&str, &[u8])], (u64, u64), u8, &[u8]); 13] = [
+    let rows: [(&[(&str, &[u8])], (u64, u64), u8, &[u8]); 10] = [
         (&HELD, (1, 0), 3, b"read failed\n"),
         (&HELD, (2, 0), 3, b"read failed\n"),
         (&HELD, (3, 0), 0, ACCEPTED),
         (&HELD, (0, 1), 4, b""),
         (&HELD, (0, 2), 0, ACCEPTED),
         (&HELD, (1, 1), 4, b""),
-        (coin, (0, 0), 3, b"read failed\n"),
-        (certificate, (0, 0), 3, b"read failed\n"),
-        (cut, (0, 0), 6, b"refused 10 1:0\n"),
+        (&[("coin", COIN)], (0, 0), 3, b"read failed\n"),
+        (&[("c", BALANCED)], (0, 0), 3, b"read failed\n"),
+        (&CUT, (0, 0), 6, b"refused 10 1:0\n"),
         // There is no second call.
-        (cut, (2, 0), 6, b"refused 10 1:0\n"),
-        (blank, (0, 0), 6, b"refused 10 1:0\n"),
-        (too_long, (0, 0), 8, b"limit 28 1048576\n"),
-        (too_long, (2, 0), 8, b"limit 28 1048576\n"),
+        (&CUT, (2, 0), 6, b"refused 10 1:0\n"),
     ];
     for (files, failing, status, text) in rows {
-        check_run(&rt, alloc, &CHECK, files, failing, (status, text))?;
+        check_run(&rt, rt.alloc(), &CHECK, files, failing, (status, text))?;
     }
     Ok(())
 }
 
-/// With ample memory a text of 64 predicates, actions and facts is read, and a certificate with a row for each two of
-/// its atoms.
+/// A text of one byte more than may be, and one of just as many.
+#[test]
+fn long_texts(rt: HostRuntime) -> Result<(), Fail> {
+    let rows: [(usize, u8, &[u8]); 2] = [
+        (1_048_577, 8, b"limit 28 1048576\n"),
+        (1_048_576, 6, b"refused 10 1:0\n"),
+    ];
+    for (length, status, text) in rows {
+        let blanks = vec![in rt.alloc(); b' '; length]?;
+        let files = [("coin", blanks.as_slice())];
+        check_run(&rt, rt.alloc(), &CHECK, &files, (0, 0), (status, text))?;
+    }
+    Ok(())
+}
+
+/// With ample memory a text of 64 predicates, actions and facts is read, and a certificate with a row
+/// for each two of its atoms.
 #[test]
 fn many_atoms_and_rows(rt: HostRuntime) -> Result<(), Fail> {
     let alloc = rt.alloc();
@@ -180,14 +189,20 @@ fn many_atoms_and_rows(rt: HostRuntime) -> Result<(), Fail> {
     }
     text.push_str(")")?;
     for k in 0..64u8 {
-        write!(text, "(:action a{k:02} :effect (and (decrease (reward) 1) (probabilistic 0.5 (p{k:02}))))")?;
+        write!(
+            text,
+            "(:action a{k:02} :effect (and (decrease (reward) 1) (probabilistic 0.5 (p{k:02}))))"
+        )?;
     }
     text.push_str(") (define (problem all) (:domain many) (:init")?;
     for k in 0..64u8 {
         write!(text, " (p{k:02})")?;
     }
     text.push_str(") (:goal ()) (:goal-reward 10))")?;
-    let mut certificate = String::from_str(alloc, "cert 1\npenalty 10000000\ninterval 0 0\nstates 2016\n")?;
+    let mut certificate = String::from_str(
+        alloc,
+        "cert 1\npenalty 10000000\ninterval 0 0\nstates 2016\n",
+    )?;
     for i in 0..64u8 {
         for j in i + 1..64 {
             write!(certificate, "0 0 goal : (p{i:02}) (p{j:02})\n")?;

@@ -1,5 +1,5 @@
 -- The text of the task that was read, and one that the shelf holds, or may hold, above the limit.
-use Rattle.std.proofs.Common.{rules, subst, refl}
+use Rattle.std.proofs.Common.{rules, refl}
 use Rattle.ppddl_lex.specs.declared.lexer.TheConstants.{MOST_TEXT}
 use Rattle.plan_app.proofs.Endings.{too_long_held, charged_reward}
 use Rattle.plan_app.proofs.check.read_task.Goals as goal

@@ -1,7 +1,7 @@
 -- What is said of the ending: itself, or that there was no memory for its line.
 use Rattle.std.proofs.Common.{rules, inl, inr, refl, sym, ◌∙◌, Ok, Err}
 use Rattle.plan_app.specs.declared.stop.Stop.TheVariants.{NoMemory}
-use Rattle.plan_app.proofs.Statuses.{append_nothing}
+use Rattle.std.proofs.KnownBytes.{Appends-nil}
 use Rattle.plan_app.proofs.program.put_ending.Goals as goal
 
 pub returns-in-Ok-clause-put : goal.returns-in-Ok-clause-put
@@ -35,5 +35,5 @@ returns-in-Err-line-clause-put g c = λ written. record {
   said = Err NoMemory;
   is_said = inr (refl, λ bad. search (rules, c.in-Err-line.ensures.bad_words (cc (bad, c.in-Err.is))));
   status_is = refl;
-  put = sym (append_nothing (g.O.Sink.taken c.args.out.now));
+  put = Appends-nil (g.O.Sink.taken c.args.out.now);
 }

@@ -13,7 +13,6 @@ use Rattle.plan_app.proofs.Statuses.{
   reported,
   read_failed_only,
   answered,
-  memory_puts_nothing,
 }
 use Rattle.plan_app.specs.declared.status.TheConstants.{WRITE_FAILED}
 use Rattle.plan_app.proofs.program.run.Given.{Over}
@@ -58,17 +57,12 @@ pub returns-clause-answered : goal.returns-clause-answered
 returns-clause-answered g c = λ q asks reads puts missing.
     answered (ended_at g c (λ four. puts (c.put_ending.ensures.write_failed four))) q asks reads missing
 
-pub returns-clause-memory : goal.returns-clause-memory
-returns-clause-memory g c = λ five.
-    let written : c.put_ending.result ≢ WRITE_FAILED = λ four. omega (arith, five, four) in
-    memory_puts_nothing (ended_at g c written) _ _ (c.put_ending.ensures.put written).put five
-
 pub returns-clause-ends : goal.returns-clause-ends
 returns-clause-ends g c = λ written.
     let says = c.put_ending.ensures.put written in
     (text_of says.said, ended_at g c written, says.put)
 
 pub returns-clause-cut_short : goal.returns-clause-cut_short
-returns-clause-cut_short g c = λ four. 
+returns-clause-cut_short g c = λ four.
     cut g.S.Shelf.held g.S.Shelf.read_faults c.args.words.now c.args.shelf.now c.report_of-ending.new.shelf c.report_of-ending.result
     c.report_of-ending.ensures.ends _ _ (c.put_ending.ensures.cut_short four)
