@@ -3,7 +3,7 @@
 --     known_not, known_and, known_or     Kleene's negation, conjunction and disjunction; None is what is left open
 --     known w changing at_first c b      what is known of c under b, where the predicates `changing` may change and the others are as at first
 --     is_not_false x                     whether x is true or left open
-use Rattle.std.specs.Prelude.{Bool, true, false, not, List, [], ◌∷◌, map, Option, Some, None}
+use Rattle.std.specs.Prelude.{Bool, true, false, not, cond, List, [], ◌∷◌, map, Option, Some, None}
 use Rattle.std.specs.List.{list_any}
 use Rattle.std.specs.Option.{option_map}
 use Rattle.ppddl_model.specs.declared.tree.Condition.{Condition, Row_of-Condition, end_of-Condition, more_of-Condition}
@@ -37,12 +37,14 @@ known_any (x ∷ xs) = known_or x (known_any xs)
 module _ (w : World) (changing : List Name) (at_first : State) where
   abbrev mutual
     pub known : Condition → Binding → Option Bool
-    known (condition.Atom a) b = elim (list_any (same_name a.predicate) changing) [ true ↦ None | false ↦ Some (has at_first (ground_atom b a)) ]
+    known (condition.Atom a) b =
+        cond (list_any (same_name a.predicate) changing) None (Some (has at_first (ground_atom b a)))
     known (condition.Equal x y) b = Some (same_name (named b x) (named b y))
     known (condition.Not' u (more_of-Condition c end_of-Condition)) b = known_not (known c b)
     known (condition.All' shape cs) b = known_all (known_each cs b)
     known (condition.Any' shape cs) b = known_any (known_each cs b)
-    known (condition.Imply' u (more_of-Condition c end_of-Condition) v (more_of-Condition d end_of-Condition)) b = known_or (known_not (known c b)) (known d b)
+    known (condition.Imply' u (more_of-Condition c end_of-Condition) v (more_of-Condition d end_of-Condition)) b =
+        known_or (known_not (known c b)) (known d b)
     known (condition.Exists' params u (more_of-Condition c end_of-Condition)) b = known_any (map (λ b'. known c b') (bindings w params b))
     known (condition.Forall' params u (more_of-Condition c end_of-Condition)) b = known_all (map (λ b'. known c b') (bindings w params b))
 
