@@ -1,22 +1,15 @@
 -- What the rows of a certificate say, and what a balanced certificate encloses.
-use Rattle.std.proofs.Common.{◌≡◌, ◌⊎◌, suc, ◌*◌, Bool, true, false, cond, List, [], ◌∷◌, Option, None, Some, refl, sym, ap, subst, inl, inr, ◌∙◌, arith}
-use Rattle.std.specs.Prelude.{AllPairs, Contains}
+use Rattle.std.proofs.Common.{◌≡◌, ◌⊎◌, ◌*◌, Bool, true, false, cond, List, [], ◌∷◌, Option, None, Some, refl, sym, ap, subst, inl, inr, ◌∙◌, arith}
+use Rattle.std.specs.Prelude.{Contains}
 use Rattle.std.proofs.lemmas.Bool.{cases_Bool}
 use Rattle.weighted.specs.Chances.{IsExact}
 use Rattle.plain_list.proofs.Members.{Contains-first, Contains-later, Contains-cons_cases, Contains-nil}
+use Rattle.plain_list.proofs.Related.{AllPairs-head, AllPairs-tail}
 use Rattle.decision_process.specs.Process.{Process}
 use Rattle.decision_process.specs.Readings.{Row, HasDistinctStates, action_of, row_at, low, high, act}
 use Rattle.decision_process.specs.Laws as laws
 use Rattle.decision_process.specs.Laws.{IsBalancedIn}
 use Rattle.decision_process.proofs.Balance.{balanced_interval_encloses}
-
--- of pairwise related items the first is related to each other, and the rest are pairwise related
-AllPairs-head : {X : Type 0} (R : X → X → Type 0) (x : X) (xs : List X) → AllPairs R (x ∷ xs)
-    → (y : X) → Contains xs y → R x y
-AllPairs-head R x xs pairs y (k, below, found) = subst (R x) found (pairs 0 (suc k) y (omega arith) (omega arith))
-
-AllPairs-tail : {X : Type 0} (R : X → X → Type 0) (x : X) (xs : List X) → AllPairs R (x ∷ xs) → AllPairs R xs
-AllPairs-tail R x xs pairs i j d below within = pairs (suc i) (suc j) d (omega arith) (omega arith)
 
 acts_or_quits : {A : Type 0} (a : A) → ◌≡◌ {A = Option A} None (Some a) → ⊥
 acts_or_quits a e = cc

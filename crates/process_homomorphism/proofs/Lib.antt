@@ -1,0 +1,10 @@
+pub mod Ratios
+pub mod Pairs
+pub mod Outcomes
+pub mod Costs
+pub mod Following
+pub mod Starts
+pub mod Levels
+pub mod Plans
+pub mod Certificates
+pub mod Die

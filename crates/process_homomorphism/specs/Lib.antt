@@ -1,0 +1,4 @@
+pub mod Homomorphism
+pub mod Counterparts
+pub mod Laws
+pub mod Die
