@@ -1,19 +1,15 @@
 -- The die's rolls stand for the coin's flips, so the laws' premises can be met.
-use Rattle.std.proofs.Common.{◌≡◌, [], ◌∷◌, Some, refl, arith}
+use Rattle.std.proofs.Common.{Bool, true, false, cond, ◌≡◌, [], ◌∷◌, Some, refl, arith}
 use Rattle.std.specs.Prelude.{Contains}
 use Rattle.plain_list.proofs.Members.{Contains-first}
 use Rattle.decision_process.specs.Coin as coin_flips
-use Rattle.decision_process.specs.Coin.{Move, flip, is_heads, coin}
+use Rattle.decision_process.specs.Coin.{heads, tails, Move, flip, is_heads, coin}
 use Rattle.process_homomorphism.specs.Homomorphism.{IsHomomorphism, IsLike, AreStartsOf}
-use Rattle.process_homomorphism.specs.Die.{Face, one, two, three, four, five, six, Throw, roll, is_even, die, starts, side_of, as_coin}
+use Rattle.process_homomorphism.specs.Die.{Face, Throw, roll, is_even, die, starts, as_coin}
 
-even_is_heads : (face : Face) → is_even face ≡ is_heads (side_of face)
-even_is_heads one = refl
-even_is_heads two = refl
-even_is_heads three = refl
-even_is_heads four = refl
-even_is_heads five = refl
-even_is_heads six = refl
+even_is_heads : (even : Bool) → even ≡ is_heads (cond even heads tails)
+even_is_heads true = refl
+even_is_heads false = refl
 
 can_roll : (throw : Throw) → Contains (roll ∷ []) throw
 can_roll roll = Contains-first roll []
@@ -38,7 +34,7 @@ die_stands_for_coin = record {
   den_positive = omega arith;
   den_positive_there = omega arith;
   penalties = refl;
-  goals = λ face valid. even_is_heads face;
+  goals = λ face valid. even_is_heads (is_even face);
   like = λ face valid off. like face;
 }
 

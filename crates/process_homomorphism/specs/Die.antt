@@ -1,5 +1,5 @@
 -- A die that is rolled until it shows an even number stands for a coin that is flipped until it shows heads.
-use Rattle.std.specs.Prelude.{◌≡◌, ◌*◌, ◌^◌, Bool, true, false, List, [], ◌∷◌, Option, Some, refl}
+use Rattle.std.specs.Prelude.{◌≡◌, ◌*◌, ◌^◌, Bool, true, false, cond, List, [], ◌∷◌, Option, Some, refl}
 use Rattle.decision_process.specs.Process.{Process, Outcome, Start}
 use Rattle.decision_process.specs.Policies.{still}
 use Rattle.decision_process.specs.Least.{least}
@@ -50,12 +50,7 @@ abbrev pub starts : List (Start Face)
 starts = record { weight = 1; state = one } ∷ record { weight = 1; state = three } ∷ []
 
 abbrev pub side_of : Face → Side
-side_of one = tails
-side_of two = heads
-side_of three = tails
-side_of four = heads
-side_of five = tails
-side_of six = heads
+side_of face = cond (is_even face) heads tails
 
 abbrev pub as_coin : Mapping Face Side Throw Move
 as_coin = record { valid = λ face. true; state = side_of; action = λ throw. Some flip }
