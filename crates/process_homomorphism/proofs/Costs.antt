@@ -65,7 +65,7 @@ module _ {S T A B : Type 0} (p : Process S A) (q : Process T B) (m : Mapping S T
       (λ t c. c * q.den ^ n + least q n t)
       (λ o inside. same_sums o.cost (p.den ^ n) (q.den ^ n) (least p n o.next) (least q n (m.state o.next)) (least-carried n o.next inside))))
 
-  module _ (policy : S → Option A) (policy' : T → Option B) (is_policy : IsPolicy p policy) (of : IsPolicyOf p q m policy policy') where
+  module _ (policy : S → Option A) (policy' : T → Option B) (is_policy : IsPolicy p policy) (of : IsPolicyOf p m policy policy') where
     by_act-carried : (act : Option A) (act' : Option B) (quit quit' k k' : ℕ) (f : A → ℕ) (f' : B → ℕ) → IsActOf m act act'
         → quit * k ≡ quit' * k' → ((a : A) (b : B) → m.action a ≡ Some b → act ≡ Some a → f a * k ≡ f' b * k')
         → by_act act quit f * k ≡ by_act act' quit' f' * k'

@@ -79,6 +79,7 @@ module _ {S T A B : Type 0} (p : Process S A) (q : Process T B) (m : Mapping S T
     pub starts_here : (start : Start S) → Contains starts start → 0 < start.weight
     pub starts_there : (start : Start T) → Contains starts' start → 0 < start.weight
 
+module _ {S T A B : Type 0} (p : Process S A) (m : Mapping S T A B) where
   abbrev pub IsPolicyOf : (S → Option A) → (T → Option B) → Type 0
   IsPolicyOf policy policy' =
       (s : S) → IsValid m s → p.goal s ≡ false → IsActOf m (policy s) (policy' (m.state s))

@@ -43,14 +43,14 @@ module _ (S T A B : Type 0) where
   SpendIsCarried = (p : Process S A) (q : Process T B) (m : Mapping S T A B)
       → IsHomomorphism p q m
       → (policy : S → Option A) (policy' : T → Option B)
-      → IsPolicy p policy → IsPolicyOf p q m policy policy' → (n : ℕ) (s : S) → IsValid m s
+      → IsPolicy p policy → IsPolicyOf p m policy policy' → (n : ℕ) (s : S) → IsValid m s
       → spend p policy n s * q.den ^ n ≡ spend q policy' n (m.state s) * p.den ^ n
 
   abbrev pub StillIsCarried : Type 0
   StillIsCarried = (p : Process S A) (q : Process T B) (m : Mapping S T A B)
       → IsHomomorphism p q m
       → (policy : S → Option A) (policy' : T → Option B)
-      → IsPolicy p policy → IsPolicyOf p q m policy policy' → (n : ℕ) (s : S) → IsValid m s
+      → IsPolicy p policy → IsPolicyOf p m policy policy' → (n : ℕ) (s : S) → IsValid m s
       → still p policy n s * q.den ^ n ≡ still q policy' n (m.state s) * p.den ^ n
 
   -- ---- readings
