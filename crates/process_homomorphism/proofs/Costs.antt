@@ -3,7 +3,7 @@ use Rattle.std.proofs.Common.{◌≡◌, ℕ, suc, zero, ◌+◌, ◌*◌, ◌^�
 use Rattle.std.specs.Prelude.{Contains}
 use Rattle.std.proofs.Math.Nat.{mul_right_comm, pow-zero, mul-le-mul_right, le_antisymm}
 use Rattle.decision_process.specs.Process.{Process, expected, min_with}
-use Rattle.decision_process.specs.Policies.{IsPolicy, by_act, spend, still}
+use Rattle.decision_process.specs.Policies.{by_act, spend, still}
 use Rattle.decision_process.specs.Least.{least}
 use Rattle.decision_process.proofs.Choice.{min_with_is_least}
 use Rattle.process_homomorphism.specs.Homomorphism.{Mapping, IsValid, IsHomomorphism, IsActOf, IsPolicyOf}
@@ -65,7 +65,7 @@ module _ {S T A B : Type 0} (p : Process S A) (q : Process T B) (m : Mapping S T
       (λ t c. c * q.den ^ n + least q n t)
       (λ o inside. same_sums o.cost (p.den ^ n) (q.den ^ n) (least p n o.next) (least q n (m.state o.next)) (least-carried n o.next inside))))
 
-  module _ (policy : S → Option A) (policy' : T → Option B) (is_policy : IsPolicy p policy) (of : IsPolicyOf p m policy policy') where
+  module _ (policy : S → Option A) (policy' : T → Option B) (of : IsPolicyOf p m policy policy') where
     by_act-carried : (act : Option A) (act' : Option B) (quit quit' k k' : ℕ) (f : A → ℕ) (f' : B → ℕ) → IsActOf m act act'
         → quit * k ≡ quit' * k' → ((a : A) (b : B) → m.action a ≡ Some b → act ≡ Some a → f a * k ≡ f' b * k')
         → by_act act quit f * k ≡ by_act act' quit' f' * k'
@@ -80,8 +80,8 @@ module _ {S T A B : Type 0} (p : Process S A) (q : Process T B) (m : Mapping S T
         ≡ cond (q.goal (m.state s)) 0 (by_act (policy' (m.state s)) quit' f') * k'
     chosen s valid quit quit' k k' f f' quits each =
         cond-same (p.goal s) (q.goal (m.state s)) _ _ k k' (is.goals s valid)
-        (λ off. by_act-carried (policy s) (policy' (m.state s)) quit quit' k k' f f' (of s valid off) quits
-        (λ a b stands some. each a b off stands (is_policy s a off some)))
+        (λ off. by_act-carried (policy s) (policy' (m.state s)) quit quit' k k' f f' (of.acts s valid off) quits
+        (λ a b stands some. each a b off stands (of.is_open a s valid off some)))
 
     pub spend-carried : (n : ℕ) (s : S) → IsValid m s → spend p policy n s * q.den ^ n ≡ spend q policy' n (m.state s) * p.den ^ n
     spend-carried zero s valid = omega arith
@@ -112,7 +112,7 @@ module _ {S T A B : Type 0} where
   least_is_carried p q m is = least-carried p q m is
 
   pub spend_is_carried : laws.SpendIsCarried S T A B
-  spend_is_carried p q m is policy policy' is_policy of = spend-carried p q m is policy policy' is_policy of
+  spend_is_carried p q m is policy policy' of = spend-carried p q m is policy policy' of
 
   pub still_is_carried : laws.StillIsCarried S T A B
-  still_is_carried p q m is policy policy' is_policy of = still-carried p q m is policy policy' is_policy of
+  still_is_carried p q m is policy policy' of = still-carried p q m is policy policy' of

@@ -16,7 +16,7 @@
 --     AreReadingsOf m v v'        each valid state has in v what that for which it stands has in v'
 --     IsActOf m act act'          both give up, or the second's action is that for which the first's stands
 --     IsPolicyOf p m policy policy'
---                                 in valid states that are no goals, policy' does what policy does
+--                                 in valid states that are no goals, policy gives an open action or gives up, and policy' does the same
 use Rattle.std.specs.Prelude.{◌≡◌, ◌↔◌, ℕ, ◌<◌, Bool, IsTrue, false, List, Option, Some, None, Contains}
 use Rattle.weighted.specs.Mean.{IsAlike}
 use Rattle.decision_process.specs.Process.{Process, Outcome, Start, EachOutcome}
@@ -80,6 +80,8 @@ module _ {S T A B : Type 0} (p : Process S A) (q : Process T B) (m : Mapping S T
     pub starts_there : (start : Start T) → Contains starts' start → 0 < start.weight
 
 module _ {S T A B : Type 0} (p : Process S A) (m : Mapping S T A B) where
-  abbrev pub IsPolicyOf : (S → Option A) → (T → Option B) → Type 0
-  IsPolicyOf policy policy' =
-      (s : S) → IsValid m s → p.goal s ≡ false → IsActOf m (policy s) (policy' (m.state s))
+  pub record IsPolicyOf (policy : S → Option A) (policy' : T → Option B) : Type 0 where
+    pub is_open : (a : A) (s : S) → IsValid m s → p.goal s ≡ false
+        → policy s ≡ Some a → Contains (p.choices s) a
+    pub acts : (s : S) → IsValid m s → p.goal s ≡ false
+        → IsActOf m (policy s) (policy' (m.state s))

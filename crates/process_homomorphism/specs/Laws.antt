@@ -19,7 +19,7 @@ use Rattle.std.specs.Prelude.{◌≡◌, ◌↔◌, ℕ, ◌*◌, ◌^◌, Bool,
 use Rattle.weighted.specs.Chances.{IsExact}
 use Rattle.decision_process.specs.Process.{Process, Start}
 use Rattle.decision_process.specs.Plans.{Plan, Fits}
-use Rattle.decision_process.specs.Policies.{IsPolicy, spend, still}
+use Rattle.decision_process.specs.Policies.{spend, still}
 use Rattle.decision_process.specs.Least.{least}
 use Rattle.decision_process.specs.Backup.{lower_backup, upper_backup}
 use Rattle.decision_process.specs.Following.{IsLowerFrom, IsUpperFrom}
@@ -43,14 +43,14 @@ module _ (S T A B : Type 0) where
   SpendIsCarried = (p : Process S A) (q : Process T B) (m : Mapping S T A B)
       → IsHomomorphism p q m
       → (policy : S → Option A) (policy' : T → Option B)
-      → IsPolicy p policy → IsPolicyOf p m policy policy' → (n : ℕ) (s : S) → IsValid m s
+      → IsPolicyOf p m policy policy' → (n : ℕ) (s : S) → IsValid m s
       → spend p policy n s * q.den ^ n ≡ spend q policy' n (m.state s) * p.den ^ n
 
   abbrev pub StillIsCarried : Type 0
   StillIsCarried = (p : Process S A) (q : Process T B) (m : Mapping S T A B)
       → IsHomomorphism p q m
       → (policy : S → Option A) (policy' : T → Option B)
-      → IsPolicy p policy → IsPolicyOf p m policy policy' → (n : ℕ) (s : S) → IsValid m s
+      → IsPolicyOf p m policy policy' → (n : ℕ) (s : S) → IsValid m s
       → still p policy n s * q.den ^ n ≡ still q policy' n (m.state s) * p.den ^ n
 
   -- ---- readings
