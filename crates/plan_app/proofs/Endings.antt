@@ -1,6 +1,7 @@
 -- Why a request ends: from what was read to what the shelf may hold.
 use Rattle.std.proofs.Common.{◌≡◌, ℕ, ◌+◌, ◌<◌, ◌≤◌, ◌⊎◌, inl, inr, List, length, replicate, refl, sym, ap, ◌∙◌, subst, arith, Option, Some, None, Result, Ok, Err}
 use Rattle.std.proofs.Math.ListN.{length-replicate}
+use Rattle.shelf_io.specs.Causes.{one_more}
 use Rattle.shelf_io.specs.Shelf.{Told, Untold, Missing, Holds, MayHold}
 use Rattle.shelf_io.specs.declared.shelf_fault.ShelfFault.{ShelfFault}
 use Rattle.shelf_io.specs.declared.shelf_fault.ShelfFault.TheVariants as fault
@@ -18,7 +19,7 @@ use Rattle.plan_app.specs.declared.stop.Stop.{Stop}
 use Rattle.plan_app.specs.declared.stop.Stop.TheVariants.{BadWords, ReadFailed, NoMemory, Limit, Refused, NotAccepted}
 use Rattle.plan_app.specs.Balanced.{IsBalancedFor}
 use Rattle.plan_app.specs.Inputs.{charged_by, IsDecoded, code_of, row_of, stop_of_certificate}
-use Rattle.plan_app.specs.Ending.{MayHoldTask, MayHoldThin, MayHoldCertificate, MayStop, MayEndRequest, IsJudged}
+use Rattle.plan_app.specs.Ending.{MayHoldTask, MayHoldThin, MayHoldCertificate, MayStop, MayEndRequest, IsJudged, CallsFor}
 
 longer_held : (told : Told) (limit : ℕ) → (told ≡ Missing → ⊥) → ((bytes : List ℕ) → told ≡ Holds bytes → limit < length bytes)
     → (bytes : List ℕ) × MayHold told bytes × (limit < length bytes)
@@ -132,3 +133,12 @@ module _ {S : Type 0} (held : S → List ℕ → Told) (reads : S → ℕ) (old 
       },
     )
     judged_ends new (Err _) judged = absurd judged
+
+-- the second call comes behind a text that is read
+pub two_calls : {S : Type 0} (held : S → List ℕ → Told) (calls : S → ℕ) (old mid new : S) (q : Asked) → MayHoldThin (held old q.domain)
+    → calls mid ≡ one_more (calls old) → calls new ≡ one_more (calls mid) → CallsFor held calls old new (Some q)
+two_calls held calls old mid new q thin first second = record {
+  nothing = λ none. absurd (cc none);
+  text_alone = λ other is apart. let same : q ≡ other = cc is in absurd (apart (subst (λ asked. MayHoldThin (held old asked.domain)) same thin));
+  at_most = omega (arith, first, second);
+}

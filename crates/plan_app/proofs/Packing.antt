@@ -10,10 +10,9 @@ use Rattle.std.proofs.lemmas.Nat.{or_comm}
 use Rattle.certificate.specs.declared.model.Row.{Row}
 use Rattle.ppddl_model.specs.declared.tree.Task.{Task}
 use Rattle.ppddl_model.specs.State.{Name, same_name, GroundAtom, same_atom, atom_cmp_total, State, no_atoms, has, with_atom, with_atoms}
-use Rattle.ppddl_model.specs.Changing.{has_text, facts, changing_atoms, is_changing, fixed_facts}
+use Rattle.ppddl_model.specs.Changing.{has_text, facts, changing_atoms, is_changing, fixed_facts, state_of_texts}
 use Rattle.ppddl_model.proofs.States.{same_name-Decides, same_atom-Decides, has-with_atom, has-with_atoms, same_from_has}
 use Rattle.plain_list.proofs.Members.{Contains-map}
-use Rattle.plan_app.specs.Values.{row_state}
 use Rattle.plan_app.specs.Bits.{bits_where}
 use Rattle.plan_app.specs.RowTable.{row_bits}
 use Rattle.plan_app.proofs.Bits.{bits_where-or, bits_where-and, any-bits_where, agree_from_bits, bits_from_agree, bits_where-map, same_name_turned}
@@ -64,6 +63,10 @@ any_same_name h name (n ∷ names) =
 -- a filter by a test of the atom that is sought
 any-filter_atoms : (p : GroundAtom → Bool) (q : GroundAtom) (atoms : List GroundAtom) → list_any (same_atom q) (filter p atoms) ≡ (p q && list_any (same_atom q) atoms)
 any-filter_atoms p q atoms = any-filter_same (same_atom q) p (p q) (λ a same. ap p (sym (same_atom_exact q a same))) atoms
+
+-- the state of a row
+abbrev pub row_state : Task → Row → State
+row_state task r = state_of_texts task r.atoms
 
 -- bit k says whether the atom of the name at k holds
 abbrev pub state_bits : List Name → State → ℕ

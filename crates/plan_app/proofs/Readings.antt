@@ -5,6 +5,8 @@ use Rattle.std.specs.List.{list_any}
 use Rattle.std.proofs.lemmas.Bool.{eqb-true}
 use Rattle.std.proofs.lemmas.Bool.Decides.{same_from_decides}
 use Rattle.decision_process.specs.Process.{expected}
+use Rattle.decision_process.specs.Readings as readings
+use Rattle.decision_process.specs.Readings.{row_at, low, high}
 use Rattle.certificate.specs.declared.model.Row.{Row}
 use Rattle.ppddl_model.specs.declared.tree.Action.{Action}
 use Rattle.ppddl_model.specs.declared.tree.Atom.{Atom}
@@ -14,7 +16,7 @@ use Rattle.ppddl_model.specs.State.{Name, same_name, same_atom, State, has, with
 use Rattle.ppddl_model.specs.Objects.{named, ground_atom}
 use Rattle.ppddl_model.specs.Truth.{holds}
 use Rattle.ppddl_model.specs.Denominator.{common_denominator}
-use Rattle.ppddl_model.specs.Steps.{Charges, world, is_goal, step, step_den}
+use Rattle.ppddl_model.specs.Steps.{Instance, Charges, world, is_goal, step, step_den, process}
 use Rattle.ppddl_model.specs.Changing.{facts, literals, changing_atoms}
 use Rattle.ppddl_model.proofs.States.{same_state-Decides}
 use Rattle.ppddl_reader.specs.ThinTask.{IsThinTask}
@@ -23,7 +25,7 @@ use Rattle.plan_app.specs.declared.checker.packed_goal.PackedGoal.TheVariants.{F
 use Rattle.plan_app.specs.declared.checker.packed_action.PackedAction.{PackedAction}
 use Rattle.plan_app.specs.declared.checker.row_table.Bounds.{Bounds}
 use Rattle.plan_app.specs.declared.checker.row_table.RowTable.{RowTable}
-use Rattle.plan_app.specs.Values.{row_state, row_at, low, high}
+use Rattle.plan_app.specs.Balanced.{row_of}
 use Rattle.plan_app.specs.Bits.{bits_where}
 use Rattle.plan_app.specs.PackedTask.{MakesTrue, IsStepOf, packed_goal, Packs, is_reached, after}
 use Rattle.plan_app.specs.RowTable.{row_bits, row_with, IsTable, lower_at, upper_at}
@@ -31,22 +33,21 @@ use Rattle.plan_app.proofs.Zips.{AllZip-left}
 use Rattle.plan_app.proofs.Effects.{literals-thin, holds-nothing}
 use Rattle.plan_app.proofs.Backups.{over_whole, over_own, below_own, below_whole, above_own, above_whole, backup-thin, pow_one}
 use Rattle.plan_app.proofs.Thin.{sole_instance, changing_atoms-names, scale_exact, scale_positive, single_draw, no_base_cost}
-use Rattle.plan_app.proofs.Packing.{state_bits, Agrees, Agrees-row_state, Agrees-with_atom, same_states, state_bits-row_state, state_bits-with_atom, is_changing-bits, has-bits}
+use Rattle.plan_app.proofs.Packing.{state_bits, row_state, Agrees, Agrees-row_state, Agrees-with_atom, same_states, state_bits-row_state, state_bits-with_atom, is_changing-bits, has-bits}
 
 abbrev pub charges : ℕ → Charges
 charges penalty = record { penalty = penalty; step_cost = 0 }
 
-elim_as_cond : {X : Type 0} (b : Bool) (x y : X) → elim b [ true ↦ x | false ↦ y ] ≡ cond b x y
-elim_as_cond true x y = refl
-elim_as_cond false x y = refl
-
 same_literal : (a b : Name) → (a ∷ []) ∷ [] ≡ (b ∷ []) ∷ [] → a ≡ b
 same_literal a b e = cc
 
-lower_of_row : (o : Option Row)
-    → ◌≡◌ {A = ℕ} (elim (option_map {U = Bounds} (λ (r : Row). record { lower = r.lower; upper = r.upper }) o) [ None ↦ 0 | Some b ↦ b.lower ]) (elim (o) [ None ↦ 0 | Some r ↦ r.lower ])
-lower_of_row None = refl
-lower_of_row (Some r) = refl
+-- a first row by two tests that agree
+first_row : {X Y : Type 0} (f : X → Y) (b d : Bool) → b ≡ d → (x : X) (o : Option Y) (p : Option X) → o ≡ option_map f p
+    → elim b [ true ↦ Some (f x) | false ↦ o ] ≡ option_map f (cond d (Some x) p)
+first_row f true true e x o p is = refl
+first_row f true false e x o p is = cc
+first_row f false true e x o p is = cc
+first_row f false false e x o p is = is
 
 module _ (task : Task) (thin : IsThinTask task) (packed : PackedTask) (packs : Packs task packed) where
   pub changing_names : changing_atoms task ≡ map (λ name. name ∷ []) packed.names
@@ -88,31 +89,42 @@ module _ (task : Task) (thin : IsThinTask task) (packed : PackedTask) (packs : P
         λ same. eq-eqb (row_bits packed.names r) (state_bits packed.names s) (sym of_row ∙ ap (state_bits packed.names) same),
       )
 
-  pub row_at-packed : (rows : List Row) (s : State) → Agrees task s → row_at task rows s ≡ row_with packed.names rows (state_bits packed.names s)
+  abbrev pub rows_of : List Row → List (readings.Row State Instance)
+  rows_of rows = map (row_of task) rows
+
+  pub row_at-packed : (rows : List Row) (s : State) → Agrees task s
+      → row_at same_state (rows_of rows) s ≡ option_map (row_of task) (row_with packed.names rows (state_bits packed.names s))
   row_at-packed [] s agrees = refl
   row_at-packed (r ∷ rows) s agrees =
-      elim_as_cond (same_state (row_state task r) s) (Some r) (row_at task rows s)
-      ∙ ap (λ b. cond b (Some r) (row_at task rows s)) (same_row r s agrees)
-      ∙ ap (cond (row_bits packed.names r == state_bits packed.names s) (Some r)) (row_at-packed rows s agrees)
+      first_row (row_of task) (same_state (row_state task r) s) (row_bits packed.names r == state_bits packed.names s) (same_row r s agrees) r
+      (row_at same_state (rows_of rows) s) (row_with packed.names rows (state_bits packed.names s)) (row_at-packed rows s agrees)
+
+  lower_of_row : (o : Option Row)
+      → ◌≡◌ {A = ℕ} (elim (option_map (row_of task) o) [ None ↦ 0 | Some r ↦ r.lower ])
+      (elim (option_map {U = Bounds} (λ (r : Row). record { lower = r.lower; upper = r.upper }) o) [ None ↦ 0 | Some b ↦ b.lower ])
+  lower_of_row None = refl
+  lower_of_row (Some r) = refl
+
+  upper_of_row : (penalty : ℕ) (o : Option Row)
+      → ◌≡◌ {A = ℕ} (elim (option_map (row_of task) o) [ None ↦ penalty | Some r ↦ r.upper ])
+      (elim (option_map {U = Bounds} (λ (r : Row). record { lower = r.lower; upper = r.upper }) o) [ None ↦ penalty | Some b ↦ b.upper ])
+  upper_of_row penalty None = refl
+  upper_of_row penalty (Some r) = refl
 
   module _ (rows : List Row) (table : RowTable) (filled : IsTable packed.names rows table) where
-    pub low-packed : (s : State) → Agrees task s → low task rows s ≡ lower_at table (state_bits packed.names s)
+    pub low-packed : (s : State) → Agrees task s → low same_state (rows_of rows) s ≡ lower_at table (state_bits packed.names s)
     low-packed s agrees =
-        ap (λ o. elim o [ None ↦ 0 | Some r ↦ r.lower ]) (row_at-packed rows s agrees)
-        ∙ sym (lower_of_row (row_with packed.names rows (state_bits packed.names s)))
+        ap (λ (o : Option (readings.Row State Instance)). elim o [ None ↦ 0 | Some r ↦ r.lower ]) (row_at-packed rows s agrees)
+        ∙ lower_of_row (row_with packed.names rows (state_bits packed.names s))
         ∙ sym (ap (λ (o : Option Bounds). elim o [ None ↦ 0 | Some b ↦ b.lower ]) (filled.bounds (state_bits packed.names s)))
 
-    upper_of_row : (penalty : ℕ) (o : Option Row)
-        → ◌≡◌ {A = ℕ} (elim (option_map {U = Bounds} (λ (r : Row). record { lower = r.lower; upper = r.upper }) o) [ None ↦ penalty | Some b ↦ b.upper ]) (elim (o) [ None ↦ penalty | Some r ↦ r.upper ])
-    upper_of_row penalty None = refl
-    upper_of_row penalty (Some r) = refl
-
-    pub high-packed : (penalty : ℕ) (s : State) → Agrees task s → high task (charges penalty) rows s ≡ upper_at packed table penalty (state_bits packed.names s)
+    pub high-packed : (penalty : ℕ) (s : State) → Agrees task s
+        → high (process task (charges penalty)) same_state (rows_of rows) s ≡ upper_at packed table penalty (state_bits packed.names s)
     high-packed penalty s agrees =
-        ap (λ b. cond b 0 (elim (row_at task rows s) [ None ↦ penalty | Some r ↦ r.upper ])) (is_goal-packed s agrees)
+        ap (λ b. cond b 0 (elim (row_at same_state (rows_of rows) s) [ None ↦ penalty | Some r ↦ r.upper ])) (is_goal-packed s agrees)
         ∙ ap (cond (is_reached packed.goal (state_bits packed.names s)) 0)
-        (ap (λ o. elim o [ None ↦ penalty | Some r ↦ r.upper ]) (row_at-packed rows s agrees)
-        ∙ sym (upper_of_row penalty (row_with packed.names rows (state_bits packed.names s)))
+        (ap (λ (o : Option (readings.Row State Instance)). elim o [ None ↦ penalty | Some r ↦ r.upper ]) (row_at-packed rows s agrees)
+        ∙ upper_of_row penalty (row_with packed.names rows (state_bits packed.names s))
         ∙ sym (ap (λ (o : Option Bounds). elim o [ None ↦ penalty | Some b ↦ b.upper ]) (filled.bounds (state_bits packed.names s))))
 
   -- ---- steps

@@ -14,9 +14,8 @@ use Rattle.certificate.specs.declared.model.Row.{Row}
 use Rattle.ppddl_model.specs.State.{Name}
 use Rattle.plain_list.proofs.Members.{Contains-first, Contains-later, Contains-cons_cases, Contains-nil}
 use Rattle.plan_app.specs.declared.checker.row_table.Bounds.{Bounds}
-use Rattle.plan_app.specs.Balanced.{AreDistinct}
 use Rattle.plan_app.specs.Bits.{is_known}
-use Rattle.plan_app.specs.RowTable.{row_bits, row_with, AreRows}
+use Rattle.plan_app.specs.RowTable.{AreDistinct, row_bits, row_with, AreRows}
 
 -- ---- members of the front of a list
 

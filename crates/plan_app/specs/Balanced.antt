@@ -1,41 +1,49 @@
--- Balanced certificates of a task.
---     IsBalancedFor task charges c    the penalty is that of the task; the atoms of rows are changing atoms, the states of rows distinct;
---                                     goals are marked as such; acts name instances; each value follows from those of the next states;
---                                     the interval is that of the starts
+-- Certificates of a task: what the rows of a text are as rows of the task's process, and when a certificate is balanced.
+--     instance_named task name        the first instance with this text, as `(move-car l1 l2)`, if any
+--     act_of task act                 what the act of a row does; one that names no instance gives up
+--     row_of task r                   the row: its state is that of the row's atoms and of the facts that never change
+--     certificate_of task c           the certificate of these rows
+--     IsBalancedFor task charges c    the atoms of rows are changing atoms, their acts name instances, and the certificate is balanced for
+--                                     the task's process
 --     EnclosesFor task charges c      no finite plans cost less than the interval's lower end on average, and the first n steps of the
 --                                     certificate's acts cost at most its upper end, for every n
-use Rattle.std.specs.Prelude.{◌≡◌, ◌≢◌, ℕ, true, false, List, [], ◌∷◌, Some, Contains}
-use Rattle.certificate.specs.declared.model.Act.TheVariants.{Goal, Do}
-use Rattle.certificate.specs.declared.model.Row.{Row}
+use Rattle.std.specs.Prelude.{◌≡◌, ℕ, List, map, Option, Some, None, Contains}
+use Rattle.std.specs.List.{find}
 use Rattle.plain_list.specs.Texts.{list_text}
+use Rattle.certificate.specs.declared.model.Act.{Act}
+use Rattle.certificate.specs.declared.model.Act.TheVariants.{GiveUp, Goal, Do}
+use Rattle.certificate.specs.declared.model.Row.{Row}
 use Rattle.certificate.specs.Content.{Content}
-use Rattle.decision_process.specs.Balanced.{IsBalanced, IsInterval}
 use Rattle.decision_process.specs.Enclosing.{Encloses}
+use Rattle.decision_process.specs.Readings as readings
+use Rattle.decision_process.specs.Readings.{RowAct, GivesUp, AtGoal, Takes, Certificate, act, IsBalancedCertificate}
 use Rattle.ppddl_model.specs.declared.tree.Task.{Task}
-use Rattle.ppddl_model.specs.State.{GroundAtom, State}
-use Rattle.ppddl_model.specs.Steps.{Instance, Charges, is_goal, process, starts, start_den}
-use Rattle.ppddl_model.specs.Changing.{changing_atoms}
-use Rattle.plan_app.specs.Values.{row_state, instance_named, low, high, act}
+use Rattle.ppddl_model.specs.State.{same_name, GroundAtom, State, same_state}
+use Rattle.ppddl_model.specs.Steps.{Instance, instance_name, instances, Charges, process, starts, start_den}
+use Rattle.ppddl_model.specs.Changing.{changing_atoms, state_of_texts}
 
--- no state stands in two rows
-abbrev pub AreDistinct : {S : Type 0} → List S → Type 0
-AreDistinct [] = Unit {0}
-AreDistinct (s ∷ more) = (Contains more s → ⊥) × AreDistinct more
+module _ (task : Task) where
+  abbrev pub instance_named : List ℕ → Option Instance
+  instance_named name = find (λ (i : Instance). same_name (instance_name i) name) (instances task)
 
-abbrev pub row_states : Task → List Row → List State
-row_states task [] = []
-row_states task (r ∷ rows) = row_state task r ∷ row_states task rows
+  abbrev pub act_of : Act → RowAct Instance
+  act_of GiveUp = GivesUp
+  act_of Goal = AtGoal
+  act_of (Do name) = elim (instance_named name) [ None ↦ GivesUp | Some i ↦ Takes i ]
 
-module _ (task : Task) (charges : Charges) (c : Content) where
-  pub record IsBalancedFor : Type 0 where
-    pub penalty : c.penalty ≡ charges.penalty
-    pub atoms_change : (r : Row) (text : List ℕ) → Contains c.rows r → Contains r.atoms text → (a : GroundAtom) × Contains (changing_atoms task) a × (list_text a ≡ text)
-    pub rows_distinct : AreDistinct (row_states task c.rows)
-    pub goals_marked : (r : Row) → Contains c.rows r → is_goal task (row_state task r) ≡ true → (r.lower ≡ 0) × (r.upper ≡ 0) × (r.act ≡ Goal)
-    pub others_not : (r : Row) → Contains c.rows r → is_goal task (row_state task r) ≡ false → r.act ≢ Goal
-    pub acts_named : (r : Row) (name : List ℕ) → Contains c.rows r → r.act ≡ Do name → (i : Instance) × (instance_named task name ≡ Some i)
-    pub balanced : IsBalanced (process task charges) (low task c.rows) (high task charges c.rows) (act task c.rows)
-    pub interval : IsInterval (low task c.rows) (high task charges c.rows) (starts task) (start_den task) c.lower c.upper
+  abbrev pub row_of : Row → readings.Row State Instance
+  row_of r = record { state = state_of_texts task r.atoms; lower = r.lower; upper = r.upper; act = act_of r.act }
 
-  abbrev pub EnclosesFor : Type 0
-  EnclosesFor = Encloses (process task charges) (starts task) (start_den task) c.lower c.upper (act task c.rows)
+  abbrev pub certificate_of : Content → Certificate State Instance
+  certificate_of c = record { penalty = c.penalty; rows = map row_of c.rows; lower = c.lower; upper = c.upper }
+
+  module _ (charges : Charges) (c : Content) where
+    pub record IsBalancedFor : Type 0 where
+      pub atoms_change : (r : Row) (text : List ℕ) → Contains c.rows r → Contains r.atoms text
+          → (a : GroundAtom) × Contains (changing_atoms task) a × (list_text a ≡ text)
+      pub acts_named : (r : Row) (name : List ℕ) → Contains c.rows r → r.act ≡ Do name
+          → (i : Instance) × (instance_named name ≡ Some i)
+      pub balanced : IsBalancedCertificate (process task charges) same_state (starts task) (start_den task) (certificate_of c)
+
+    abbrev pub EnclosesFor : Type 0
+    EnclosesFor = Encloses (process task charges) (starts task) (start_den task) c.lower c.upper (act same_state (map row_of c.rows))

@@ -5,16 +5,17 @@
 --     MayEnd .. request ending       the words with this request, if any, may end so
 --     MayEndAs .. words .. status text
 --                                    the run with these words may end with this status and this text
+--     CallsFor .. request            how often the shelf was asked for a file
 --     HasVerdict status              the status speaks of the words or the texts, and not of a fault or of memory
 --     IsAnswer status                the status is 0, 6, 7 or 8, or 5
 --     IsTold words held q domain f   the words ask for q, and the shelf tells these bytes of its names
 --     PutsReport domain f old new    a certificate was accepted, and its report was put
 --     OnlyRead ..                    what a shelf holds stays, no count falls, and no count of write faults rose
 -- Where a shelf does not tell what it holds, "the shelf holds" is read as "it may hold".
-use Rattle.std.specs.Prelude.{◌≡◌, ◌≢◌, ◌≤◌, ◌⊎◌, ℕ, List, [], ◌∷◌, Option, Some, None, Result, Ok, Err, Contains}
+use Rattle.std.specs.Prelude.{◌≡◌, ◌≢◌, ◌+◌, ◌≤◌, ◌⊎◌, ℕ, List, [], ◌∷◌, Option, Some, None, Result, Ok, Err, Contains}
 use Rattle.std.specs.Borrow.{Bor}
 use Rattle.std.specs.Io.KnownBytes.{Appends}
-use Rattle.shelf_io.specs.Causes.{Rose}
+use Rattle.shelf_io.specs.Causes.{one_more, Rose}
 use Rattle.shelf_io.specs.Shelf.{Told, Missing, Holds, MayHold}
 use Rattle.shelf_io.specs.Streams.{PutsPrefix}
 use Rattle.certificate.specs.Content.{Content}
@@ -77,7 +78,13 @@ module _ {S : Type 0} (held : S → List ℕ → Told) (reads : S → ℕ) (old 
   MayEnd None ending = ending ≡ Err BadWords
   MayEnd (Some q) ending = MayEndRequest q ending
 
--- the same by status and text
+-- how often the shelf was asked: once for the planning text, and once more for the certificate behind a thin text alone
+pub record CallsFor {S : Type 0} (held : S → List ℕ → Told) (calls : S → ℕ) (old new : S) (request : Option Asked) : Type 0 where
+  pub nothing : request ≡ None → calls new ≡ calls old
+  pub text_alone : (q : Asked) → request ≡ Some q → (MayHoldThin (held old q.domain) → ⊥) → calls new ≡ one_more (calls old)
+  pub at_most : calls new ≤ calls old + 2
+
+-- how the words may end, by status and text
 pub record MayEndAs {S : Type 0} (held : S → List ℕ → Told) (reads : S → ℕ) (words : List (Bor (List ℕ))) (old new : S) (status : ℕ) (text : List ℕ) : Type 0 where
   pub ending : Result (List ℕ) Stop
   pub may_end : MayEnd held reads old new (request_by words) ending

@@ -32,6 +32,10 @@ use Rattle.plan_app.specs.Balanced.{IsBalancedFor}
 abbrev pub charged_by : Task → Option Charges
 charged_by = charges_of (record { penalty = None; step_cost = 0 })
 
+-- this penalty, and no step cost
+abbrev pub charging : ℕ → Charges
+charging penalty = record { penalty = penalty; step_cost = 0 }
+
 -- ---- planning texts
 
 abbrev pub IsTooLong : List ℕ → Type 0

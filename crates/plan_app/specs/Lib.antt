@@ -1,4 +1,3 @@
-pub mod Values
 pub mod Balanced
 pub mod Request
 pub mod Texts

@@ -1,8 +1,10 @@
 -- Tables of rows by the bits of their states.
+--     AreDistinct xs              no item stands twice
 --     row_bits names r            the bits of a row's state
 --     row_with names rows bits    the first row of a state
 --     AreRows names rows          the atoms of the rows are known, and no state stands in two rows
 --     IsTable names rows table    they are such rows, and the table has the state of each with its values
+--     IsTableOf names rows table  the table of these rows, or none where they are no such rows
 --     lower_at table bits         the lower value of a state, 0 without a row
 --     upper_at packed table penalty bits
 --                                 its upper value: 0 at a goal, the penalty without a row
@@ -10,7 +12,7 @@
 --                                 the values and the act of the row of a state follow from the values of the next states
 --     IsBalancedBy packed table penalty c
 --                                 so it is with each row of a certificate; its penalty is this one, and its interval that of the start
-use Rattle.std.specs.Prelude.{◌≡◌, ℕ, ◌*◌, ◌≤◌, ◌==◌, cond, List, map, Option, Some, None, option_map, Contains, IsTrue, MatchBool}
+use Rattle.std.specs.Prelude.{◌≡◌, ℕ, ◌*◌, ◌≤◌, ◌==◌, cond, List, [], ◌∷◌, map, Option, Some, None, option_map, Contains, IsTrue, MatchBool}
 use Rattle.std.specs.List.{find, list_all}
 use Rattle.std.specs.Ordering.{nat_cmp}
 use Rattle.std.specs.BTreeMap.{get}
@@ -22,9 +24,12 @@ use Rattle.ppddl_model.specs.State.{Name}
 use Rattle.plan_app.specs.declared.checker.packed_task.PackedTask.{PackedTask}
 use Rattle.plan_app.specs.declared.checker.packed_action.PackedAction.{PackedAction}
 use Rattle.plan_app.specs.declared.checker.row_table.RowTable.{RowTable}
-use Rattle.plan_app.specs.Balanced.{AreDistinct}
 use Rattle.plan_app.specs.Bits.{is_known, bits_of_texts}
 use Rattle.plan_app.specs.PackedTask.{is_reached, backup, after, step_named}
+
+abbrev pub AreDistinct : {X : Type 0} → List X → Type 0
+AreDistinct [] = Unit {0}
+AreDistinct (x ∷ more) = (Contains more x → ⊥) × AreDistinct more
 
 module _ (names : List Name) where
   abbrev pub row_bits : Row → ℕ
@@ -41,6 +46,11 @@ module _ (names : List Name) where
     pub are_rows : AreRows rows
     pub keys : table.keys.items ≡ map row_bits rows
     pub bounds : (bits : ℕ) → get nat_cmp table.bounds bits ≡ option_map (λ (r : Row). record { lower = r.lower; upper = r.upper }) (row_with rows bits)
+
+-- the table of these rows, or none where they are no such rows
+abbrev pub IsTableOf : List Name → List Row → Option RowTable → Type 0
+IsTableOf names rows None = AreRows names rows → ⊥
+IsTableOf names rows (Some table) = IsTable names rows table
 
 abbrev pub lower_at : RowTable → ℕ → ℕ
 lower_at table bits = elim (get nat_cmp table.bounds bits) [ None ↦ 0 | Some b ↦ b.lower ]

@@ -1,6 +1,8 @@
-//! The command `check`: reads a planning text and a certificate, and says whether the certificate is balanced.
+//! The command `check`: reads a planning text and a certificate, and says whether the certificate is
+//! balanced.
 
-ghost use Rattle.std.specs.Prelude.{◌≡◌, IfOk, IfErr, OnOk};
+ghost use Rattle.std.specs.Prelude.{◌≡◌, Some, IfOk, IfErr, OnOk};
+ghost use Rattle.shelf_io.specs.Causes.{one_more};
 ghost use Rattle.ppddl_reader.specs.ThinTask.{IsThinTask};
 ghost use Rattle.plan_app.specs.Request.{request_by};
 ghost use Rattle.plan_app.specs.Ending.{
@@ -10,6 +12,7 @@ ghost use Rattle.plan_app.specs.Ending.{
   MayStop,
   MayEndRequest,
   MayEnd,
+  CallsFor,
   IsJudged,
   OnlyRead,
 };
@@ -41,6 +44,7 @@ pub(crate) fn report_of<S: Shelf>(
     shelf: &mut S,
 ) -> Result<Bytes, Stop>
     ensures ends { MayEnd S.held S.read_faults shelf.old shelf.new (request_by words.now) result }
+    ensures calls { CallsFor S.held S.calls shelf.old shelf.new (request_by words.now) }
     ensures shelf { OnlyRead S.held S.read_faults S.write_faults shelf.old shelf.new }
 {
     match request_of(words) {
@@ -52,6 +56,7 @@ pub(crate) fn report_of<S: Shelf>(
 /// The report of the certificate, or why the request has none.
 fn check<S: Shelf>(alloc: Global, request: &Request<'_>, shelf: &mut S) -> Result<Bytes, Stop>
     ensures ends { MayEndRequest S.held S.read_faults shelf.old shelf.new request.now result }
+    ensures calls { CallsFor S.held S.calls shelf.old shelf.new (Some request.now) }
     ensures shelf { OnlyRead S.held S.read_faults S.write_faults shelf.old shelf.new }
 {
     let task = read_task(alloc, request, shelf)?;
@@ -64,6 +69,7 @@ fn read_task<S: Shelf>(alloc: Global, request: &Request<'_>, shelf: &mut S) -> R
     ensures task { IfOk result (MayHoldTask (S.held shelf.old request.now.domain)) }
     ensures thin { IfOk result IsThinTask }
     ensures quiet { OnOk result (S.read_faults shelf.new ≡ S.read_faults shelf.old) }
+    ensures called { S.calls shelf.new ≡ one_more (S.calls shelf.old) }
     ensures stop { IfErr result (MayStop S.held S.read_faults shelf.old shelf.new request.now) }
     ensures shelf { OnlyRead S.held S.read_faults S.write_faults shelf.old shelf.new }
 {
@@ -86,7 +92,9 @@ fn read_certificate<S: Shelf>(
     shelf: &mut S,
 ) -> Result<Certificate, Stop>
     requires { MayHoldThin (S.held shelf.old request.now.domain) }
-    ensures certificate { IfOk result (MayHoldCertificate (S.held shelf.old request.now.certificate)) }
+    ensures certificate { IfOk result
+        (MayHoldCertificate (S.held shelf.old request.now.certificate)) }
+    ensures called { S.calls shelf.new ≡ one_more (S.calls shelf.old) }
     ensures stop { IfErr result (MayStop S.held S.read_faults shelf.old shelf.new request.now) }
     ensures shelf { OnlyRead S.held S.read_faults S.write_faults shelf.old shelf.new }
 {

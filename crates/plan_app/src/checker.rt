@@ -1,12 +1,13 @@
 //! Whether a certificate is balanced for the task of a thin text.
 //!
-//! The task is packed into plain numbers: a state is a number whose bit k says whether the atom of action k
-//! holds. Each row is then tested against the rows of its next states. All of this goes with the checker over
-//! ground problems.
+//! The task is packed into plain numbers: a state is a number whose bit k says whether the atom of
+//! action k holds. Each row is then tested against the rows of its next states. All of this goes with
+//! the checker over ground problems.
 
 ghost use Rattle.std.specs.Prelude.{◌≡◌, ◌↔◌, map, IfOk, IsTrue};
 ghost use Rattle.ppddl_reader.specs.ThinTask.{IsThinTask};
 ghost use Rattle.plan_app.specs.Balanced.{IsBalancedFor};
+ghost use Rattle.plan_app.specs.Inputs.{charging};
 ghost use Rattle.plan_app.specs.RowTable.{row_bits, IsBalancedBy};
 
 mod bits;
@@ -23,7 +24,8 @@ use certificate::Certificate;
 use ppddl_model::Task;
 use std::alloc::{AllocError, Global};
 
-/// Whether the certificate is balanced for the task of a thin text, with this penalty and no step cost.
+/// Whether the certificate is balanced for the task of a thin text, with this penalty and no step
+/// cost.
 pub(crate) fn is_balanced(
     alloc: Global,
     task: &Task,
@@ -31,7 +33,8 @@ pub(crate) fn is_balanced(
     certificate: &Certificate,
 ) -> Result<bool, AllocError>
     requires { IsThinTask task.now }
-    ensures { IfOk result (λ balanced. IsTrue balanced ↔ IsBalancedFor task.now (record { penalty = penalty; step_cost = 0 }) certificate.now) }
+    ensures { IfOk result (λ balanced. IsTrue balanced
+        ↔ IsBalancedFor task.now (charging penalty) certificate.now) }
 {
     let packed = PackedTask::new(alloc, task)?;
     match RowTable::new(alloc, packed.names.as_slice(), certificate.rows())? {

@@ -13,6 +13,9 @@ mod units;
 
 pub use laws::certificate_laws;
 pub use program::run;
+pub use status::{
+    ACCEPTED, BAD_WORDS, LIMIT, NO_MEMORY, NOT_ACCEPTED, READ_FAILED, REFUSED, WRITE_FAILED,
+};
 
 #[cfg(test)]
 mod tests;

@@ -1,8 +1,8 @@
 //! The top call: all that the program does.
 
-ghost use Rattle.std.specs.Prelude.{◌≡◌, ◌≢◌, ◌⊎◌, ◌↔◌, ℕ, List};
+ghost use Rattle.std.specs.Prelude.{◌≡◌, ◌≢◌, ◌≤◌, ◌+◌, ◌⊎◌, ◌↔◌, ℕ, List};
 ghost use Rattle.std.specs.Io.KnownBytes.{Appends};
-ghost use Rattle.shelf_io.specs.Causes.{Rose};
+ghost use Rattle.shelf_io.specs.Causes.{one_more, Rose};
 ghost use Rattle.shelf_io.specs.Shelf.{Holds};
 ghost use Rattle.shelf_io.specs.Streams.{PutsPrefix};
 ghost use Rattle.plan_app.specs.declared.status.TheConstants.{
@@ -18,6 +18,7 @@ ghost use Rattle.plan_app.specs.declared.status.TheConstants.{
 ghost use Rattle.plan_app.specs.Request.{Asked, Asks, AsksNothing};
 ghost use Rattle.plan_app.specs.Inputs.{IsTooLong, IsRefused, IsAccepted, IsRejected};
 ghost use Rattle.plan_app.specs.Ending.{
+  MayHoldThin,
   MayEndAs,
   HasVerdict,
   IsMissing,
@@ -90,6 +91,12 @@ pub fn run<R: Threads + Sync, S: Shelf, I: Source + Send, O: Sink + Send, G: Gat
     ensures cut_short { result ≡ WRITE_FAILED → (status : ℕ) × (text : List ℕ)
         × MayEndAs S.held S.read_faults words.now shelf.old shelf.new status text
         × PutsPrefix (O.taken out.old) (O.taken out.new) text }
+
+    // How often the shelf is asked: for the certificate only behind a text that is read.
+    ensures no_call { AsksNothing words.now → S.calls shelf.new ≡ S.calls shelf.old }
+    ensures one_call { (q : Asked) → Asks words.now q → ¬ MayHoldThin (S.held shelf.old q.domain)
+        → S.calls shelf.new ≡ one_more (S.calls shelf.old) }
+    ensures two_calls { S.calls shelf.new ≤ S.calls shelf.old + 2 }
 
     ensures shelf { OnlyRead S.held S.read_faults S.write_faults shelf.old shelf.new }
     ensures source { input.new ≡ input.old }

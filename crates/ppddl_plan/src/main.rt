@@ -1,7 +1,14 @@
-//! The program: hands the words, the real folder and the real streams to `run`, and ends with its answer.
+//! The program: hands the words, the real folder and the real streams to `run`, and ends with its
+//! answer.
 #![tactic(auto)]
 
-use plan_app::run;
+ghost use Rattle.std.specs.Prelude.{◌≡◌, ◌≢◌, ◌≤◌, ◌+◌, ◌↔◌, map, None, IfOk, string_bytes};
+ghost use Rattle.shelf_io.specs.Causes.{Rose};
+ghost use Rattle.plan_app.specs.declared.status.TheConstants.{BAD_WORDS, WRITE_FAILED, NO_MEMORY};
+ghost use Rattle.plan_app.specs.Request.{request_of};
+ghost use Rattle.plan_app.specs.Ending.{OnlyRead};
+
+use plan_app::{NO_MEMORY, run};
 use shelf_io::{FolderShelf, FreeGate, InputSource, OutputSink, Shelf, Sink, Source};
 use std::alloc::{AllocError, Global};
 use std::env;
@@ -9,23 +16,11 @@ use std::io::ErrorKind;
 use std::process::ExitCode;
 use std::thread::Threads;
 
-/// The status of want of memory.
-const NO_MEMORY: u8 = 5;
-
 fn main(rt: HostRuntime) -> ExitCode {
-    let mut words = Vec::new(rt.alloc());
-    match env::args(&rt) {
-        Ok(args) => {
-            for word in args.skip(1) {
-                if words.push(word).is_err() {
-                    return ExitCode::from(NO_MEMORY);
-                }
-            }
-        }
-        Err(error) if error.kind() == ErrorKind::OutOfMemory => return ExitCode::from(NO_MEMORY),
-        // Words that are not all text ask for nothing, as no words do.
-        Err(_) => {}
-    }
+    let words = match words_of(&rt) {
+        Ok(words) => words,
+        Err(_) => return ExitCode::from(NO_MEMORY),
+    };
     let mut shelf = FolderShelf::make(&rt);
     let mut input = InputSource::make(rt.stdin());
     let mut out = OutputSink::make(rt.stdout());
@@ -37,10 +32,19 @@ fn main(rt: HostRuntime) -> ExitCode {
         &mut input,
         &mut out,
     );
-    ExitCode::from(status.unwrap_or(NO_MEMORY))
+    ExitCode::from(status)
 }
 
-/// Runs the program with these words.
+/// The words behind the program's name. Words that are not all text ask for nothing, as no words do.
+fn words_of(rt: &HostRuntime) -> Result<Vec<String>, AllocError> {
+    match env::args(rt) {
+        Ok(args) => args.skip(1).collect(rt.alloc()),
+        Err(error) if error.kind() == ErrorKind::OutOfMemory => Err(AllocError),
+        Err(_) => Ok(Vec::new(rt.alloc())),
+    }
+}
+
+/// Runs the program with these words, and answers its status.
 fn run_with<R: Threads + Sync, S: Shelf, I: Source + Send, O: Sink + Send>(
     rt: &R,
     alloc: Global,
@@ -48,10 +52,29 @@ fn run_with<R: Threads + Sync, S: Shelf, I: Source + Send, O: Sink + Send>(
     shelf: &mut S,
     input: &mut I,
     out: &mut O,
-) -> Result<u8, AllocError> {
+) -> u8
+    ensures bad_words { result ≢ WRITE_FAILED → result ≢ NO_MEMORY
+        → (result ≡ BAD_WORDS) ↔ (request_of (map string_bytes words.now) ≡ None) }
+    ensures write_failed { result ≡ WRITE_FAILED → Rose (O.faults out.old) (O.faults out.new) }
+    ensures memory { result ≡ NO_MEMORY → O.taken out.new ≡ O.taken out.old }
+    ensures two_calls { S.calls shelf.new ≤ S.calls shelf.old + 2 }
+    ensures shelf { OnlyRead S.held S.read_faults S.write_faults shelf.old shelf.new }
+    ensures source { input.new ≡ input.old }
+{
+    match lent(alloc, words) {
+        Ok(words) => run(rt, alloc, words.as_slice(), shelf, input, out, &FreeGate),
+        Err(_) => NO_MEMORY,
+    }
+}
+
+/// The words, lent.
+fn lent(alloc: Global, words: &[String]) -> Result<Vec<&str>, AllocError>
+    ensures { IfOk result (λ texts. map (λ text. text.now) texts.items
+        ≡ map string_bytes words.now) }
+{
     let mut texts = Vec::new(alloc);
     for word in words {
         texts.push(word.as_str())?;
     }
-    Ok(run(rt, alloc, texts.as_slice(), shelf, input, out, &FreeGate))
+    Ok(texts)
 }

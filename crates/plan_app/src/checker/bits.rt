@@ -1,10 +1,10 @@
-//! The bits of atoms: bit k stands for the atom of action k. Where actions share an atom, it has a bit of each.
+//! The bits of atoms: bit k stands for the atom of action k. Where actions share an atom, it has a
+//! bit of each.
 
-ghost use Rattle.std.specs.Prelude.{◌≡◌, ◌≤◌, [], ◌∷◌, length, cond, MatchOption, Some, None};
-ghost use Rattle.std.specs.List.{list_all};
+ghost use Rattle.std.specs.Prelude.{◌≡◌, ◌≢◌, ◌≤◌, [], ◌∷◌, length, IfSome, IfNone};
 ghost use Rattle.plain_list.specs.Texts.{list_text};
 ghost use Rattle.ppddl_model.specs.State.{Name, same_name};
-ghost use Rattle.plan_app.specs.Bits.{bits_where, is_known, bits_of_text, bits_of_texts};
+ghost use Rattle.plan_app.specs.Bits.{bits_where, bits_of_text, known_bits};
 
 use plain_list::Text;
 
@@ -24,7 +24,8 @@ pub(super) fn bits_of_name(names: &[Text], name: &[u8]) -> u64
 
 /// The name in `(NAME)`.
 pub(super) fn name_within(text: &[u8]) -> Option<&[u8]>
-    ensures { MatchOption result ((name : Name) → list_text (name ∷ []) ≡ text.now → ⊥) (λ name. list_text (name.now ∷ []) ≡ text.now) }
+    ensures some { IfSome result (λ name. list_text (name.now ∷ []) ≡ text.now) }
+    ensures none { IfNone result ((name : Name) → list_text (name ∷ []) ≢ text.now) }
 {
     match text {
         [b'(', name @ .., b')'] => Some(name),
@@ -46,7 +47,7 @@ pub(super) fn bits_of_text(names: &[Text], text: &[u8]) -> u64
 /// The bits of a state by the texts of its atoms, if an action makes each of them true.
 pub(super) fn bits_of_texts(names: &[Text], texts: &[Text]) -> Option<u64>
     requires { length names.now ≤ 64 }
-    ensures { result ≡ cond (list_all (is_known names.now) texts.now) (Some (bits_of_texts names.now texts.now)) None }
+    ensures { result ≡ known_bits names.now texts.now }
 {
     let mut bits = 0u64;
     for text in texts {

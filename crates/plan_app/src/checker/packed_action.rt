@@ -5,7 +5,7 @@ ghost use Rattle.std.specs.Prelude.{◌≡◌, ◌+◌, ◌-◌, ◌*◌, ◌^�
 use plain_list::Text;
 use ppddl_model::Fraction;
 
-/// An action that costs something and makes an atom true by chance; `mask` has the bits of the atom.
+/// An action that costs something and makes an atom true by chance. `mask` has the atom's bits.
 #[derive(Drop)]
 pub(super) struct PackedAction {
     pub name: Text,
@@ -19,7 +19,8 @@ pub(super) struct PackedAction {
 impl PackedAction {
     ghost use Rattle.plan_app.specs.PackedTask.{backup};
 
-    /// The expected cost of the step times `chance.den`, if going on costs `next` with the atom and `here` without it.
+    /// The expected cost of the step times `chance.den`, if going on costs `next` with the atom and
+    /// `here` without it.
     pub(super) fn backup(&self, here: u64, next: u64) -> u128
         ensures { result ≡ backup self.now here next }
     {

@@ -1,6 +1,6 @@
 //! The task of a thin text in plain numbers.
 
-ghost use Rattle.std.specs.Prelude.{◌≡◌, ◌≤◌, ◌∷◌, [], length, cond, Contains, IfOk, option_map};
+ghost use Rattle.std.specs.Prelude.{◌≡◌, ◌≤◌, ◌∷◌, [], length, Contains, IfOk, option_map};
 ghost use Rattle.std.specs.List.{AllZip, list_any, flat_map};
 ghost use Rattle.ppddl_reader.specs.ThinTask.{IsThinTask, IsThinAction};
 ghost use Rattle.ppddl_model.specs.declared.tree.Action.{Action};
@@ -8,7 +8,8 @@ ghost use Rattle.ppddl_model.specs.declared.tree.InitItem.{InitItem};
 ghost use Rattle.ppddl_model.specs.State.{same_atom};
 ghost use Rattle.ppddl_model.specs.Changing.{fact_atoms};
 ghost use Rattle.plan_app.specs.Bits.{bits_where};
-ghost use Rattle.plan_app.specs.PackedTask.{HasThinEffect, IsFact, thin_effect, atom_of, MakesTrue, IsStepOf, Packs, packed_goal, step_named};
+ghost use Rattle.plan_app.specs.PackedTask.{HasThinEffect, IsFact, MakesTrue, IsStepOf, Packs};
+ghost use Rattle.plan_app.specs.PackedTask.{thin_effect, atom_of, packed_goal, step_named};
 
 use crate::checker::bits::{bits_of_name, name_within};
 use crate::checker::packed_action::PackedAction;
@@ -120,7 +121,8 @@ fn steps_of(
 fn bits_of_facts(names: &[Text], init: &[InitItem]) -> u64
     requires facts { (i : InitItem) → Contains init.now i → IsFact i }
     requires few { length names.now ≤ 64 }
-    ensures { result ≡ bits_where (λ name. list_any (same_atom (name ∷ [])) (flat_map fact_atoms init.now)) names.now }
+    ensures { let facts = flat_map fact_atoms init.now in result
+        ≡ bits_where (λ name. list_any (same_atom (name ∷ [])) facts) names.now }
 {
     let mut bits = 0u64;
     for item in init {

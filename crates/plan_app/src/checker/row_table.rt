@@ -21,8 +21,8 @@ pub(super) struct RowTable {
 }
 
 impl RowTable {
-    ghost use Rattle.std.specs.Prelude.{◌≡◌, ◌≤◌, length, IfOk, MatchOption};
-    ghost use Rattle.plan_app.specs.RowTable.{AreRows, IsTable, lower_at};
+    ghost use Rattle.std.specs.Prelude.{◌≡◌, ◌≤◌, length, IfOk};
+    ghost use Rattle.plan_app.specs.RowTable.{IsTableOf, lower_at};
 
     /// The table of these rows; None where an atom is unknown or a state stands in two rows.
     pub(super) fn new(
@@ -31,7 +31,7 @@ impl RowTable {
         rows: &[Row],
     ) -> Result<Option<Self>, AllocError>
         requires { length names.now ≤ 64 }
-        ensures { IfOk result (λ table. MatchOption table (AreRows names.now rows.now → ⊥) (IsTable names.now rows.now)) }
+        ensures { IfOk result (IsTableOf names.now rows.now) }
     {
         let mut keys = Vec::new(alloc);
         let mut bounds = BTreeMap::new(alloc);

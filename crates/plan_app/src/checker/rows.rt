@@ -1,7 +1,8 @@
 //! Whether the values and the acts of rows follow from the values of the next states.
 
 ghost use Rattle.std.specs.Prelude.{◌≡◌, ◌↔◌, map, IsTrue};
-ghost use Rattle.plan_app.specs.RowTable.{row_bits, upper_at, LowerFollows, UpperFollows, IsRowBalanced, AreBalanced, IsStartInterval};
+ghost use Rattle.plan_app.specs.RowTable.{row_bits, upper_at, LowerFollows, UpperFollows};
+ghost use Rattle.plan_app.specs.RowTable.{IsRowBalanced, AreBalanced, IsStartInterval};
 
 use crate::checker::packed_task::PackedTask;
 use crate::checker::row_table::RowTable;
@@ -35,7 +36,8 @@ fn lower_follows(packed: &PackedTask, table: &RowTable, bits: u64, lower: u64) -
 
 /// Whether the upper value of a state is at least what its act costs from there.
 fn upper_follows(packed: &PackedTask, table: &RowTable, penalty: u64, bits: u64, row: &Row) -> bool
-    ensures { IsTrue result ↔ UpperFollows packed.now table.now penalty bits row.now.upper row.now.act }
+    ensures { IsTrue result
+        ↔ UpperFollows packed.now table.now penalty bits row.now.upper row.now.act }
 {
     match &row.act {
         Act::GiveUp => penalty <= row.upper,
@@ -93,7 +95,8 @@ pub(super) fn is_interval(
     penalty: u64,
     certificate: &Certificate,
 ) -> bool
-    ensures { IsTrue result ↔ IsStartInterval packed.now table.now penalty certificate.now.lower certificate.now.upper }
+    ensures { let c = certificate.now in IsTrue result
+        ↔ IsStartInterval packed.now table.now penalty c.lower c.upper }
 {
     certificate.lower() == table.lower(packed.start)
         && certificate.upper() == upper(packed, table, penalty, packed.start)

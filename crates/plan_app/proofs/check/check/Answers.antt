@@ -1,7 +1,7 @@
 -- The parts' answers as the request's.
 use Rattle.std.proofs.Common.{rules, subst, sym}
 use Rattle.plan_app.specs.Ending.{MayHoldTask, MayHoldCertificate}
-use Rattle.plan_app.proofs.Endings.{stops_since, judged_ends}
+use Rattle.plan_app.proofs.Endings.{stops_since, judged_ends, two_calls}
 use Rattle.plan_app.proofs.check.check.Goals as goal
 
 pub read_certificate-requires : goal.read_certificate-requires
@@ -22,3 +22,13 @@ returns-clause-ends g c =
     c.in_ok-task.ensures.task c.in_ok-task.ensures.thin
     (subst (λ held. MayHoldCertificate (held c.args.request.now.certificate) c.in_ok-certificate.certificate) c.read_task.ensures.shelf.held_same c.in_ok-certificate.ensures.certificate)
     c.read_certificate.new.shelf c.judge.result c.judge.ensures
+
+pub returns-in_err-certificate-clause-calls : goal.returns-in_err-certificate-clause-calls
+returns-in_err-certificate-clause-calls g c =
+    two_calls g.S.Shelf.held g.S.Shelf.calls c.args.shelf.now c.read_task.new.shelf c.read_certificate.new.shelf c.args.request.now
+    (c.in_ok-task.task, c.in_ok-task.ensures.task) c.read_task.ensures.called c.read_certificate.ensures.called
+
+pub returns-clause-calls : goal.returns-clause-calls
+returns-clause-calls g c =
+    two_calls g.S.Shelf.held g.S.Shelf.calls c.args.shelf.now c.read_task.new.shelf c.read_certificate.new.shelf c.args.request.now
+    (c.in_ok-task.task, c.in_ok-task.ensures.task) c.read_task.ensures.called c.read_certificate.ensures.called
