@@ -1,0 +1,5 @@
+pub mod Packed
+pub mod Next
+pub mod Steps
+pub mod OwnDen
+pub mod Coin
