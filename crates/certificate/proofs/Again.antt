@@ -5,20 +5,22 @@ use Rattle.std.specs.List.{join_with_byte, AllByRecursion}
 use Rattle.std.specs.Str.{bytes_eq}
 use Rattle.std.proofs.lemmas.Bool.{cases_Bool, and_parts, le-ltb, ltb-false}
 use Rattle.std.proofs.lemmas.List.Splits.{join_with_byte-slice_split}
+use Rattle.certificate.specs.declared.limits.TheConstants.{MOST_BYTES, MOST_UNITS, MOST_ROWS}
 use Rattle.certificate.specs.declared.model.Row.{Row}
 use Rattle.certificate.specs.declared.refusal.CertRefusal.{CertRefusal}
 use Rattle.certificate.specs.declared.refusal.CertRefusal.TheVariants.{TooLong}
 use Rattle.certificate.specs.Spelling.{penalty_line, interval_line, states_line, row_line}
-use Rattle.certificate.specs.Content.{Content, most_units, most_rows, most_bytes, IsRow, IsCertificate, lines_of, text_of, IsTextOf}
+use Rattle.certificate.specs.Content.{Content, IsRow, IsCertificate, lines_of, text_of, IsTextOf}
 use Rattle.plain_list.specs.Texts.{rises, compare_texts}
 use Rattle.certificate.specs.Decoding.{parts, penalty_of, interval_of, count_of, field_at, row_of}
 use Rattle.certificate.specs.Reading.{line_at, said_at, header_of, follows, row_at, rows_at, read_lines, read_of}
-use Rattle.certificate.specs.Answers.{Gives}
+use Rattle.certificate.specs.Answers.{GivesCertificate}
 use Rattle.certificate.proofs.Decimals.{decimal_lacks}
 use Rattle.certificate.proofs.Parts.{HasFirst, parts_ended, join_ended}
 use Rattle.certificate.proofs.Names.{Lacks, Lacks-append}
 use Rattle.certificate.proofs.RowLaws.{row_again, row_lacks_feed}
-use Rattle.certificate.proofs.TextLaws.{Stand, rise_behind, rise-cons, penalty_again, interval_again, count_again, end_again, read_is, ok_is, untested, same_text}
+use Rattle.plain_list.proofs.Results.{ok_is, test_fails}
+use Rattle.certificate.proofs.TextLaws.{Stand, rise_behind, rise-cons, penalty_again, interval_again, count_again, end_again, read_is, same_text}
 
 -- ---- rows
 
@@ -120,17 +122,17 @@ bytes_are bytes c e =
     let read = read_is (parts 10 bytes) c e in
     (read.0, sym (join_with_byte-slice_split 10 bytes) ∙ ap (join_with_byte 10) read.1 ∙ join_ended (lines_of c))
 
-long : (bytes : List ℕ) (c : Content) → read_of bytes ≡ Ok c → (ltb most_bytes (length bytes) ≡ false) × (read_lines (parts 10 bytes) ≡ Ok c)
+long : (bytes : List ℕ) (c : Content) → read_of bytes ≡ Ok c → (ltb MOST_BYTES (length bytes) ≡ false) × (read_lines (parts 10 bytes) ≡ Ok c)
 unfolding read_of
-long bytes c e = untested (ltb most_bytes (length bytes)) TooLong (read_lines (parts 10 bytes)) c e
+long bytes c e = test_fails (ltb MOST_BYTES (length bytes)) TooLong (read_lines (parts 10 bytes)) c e
 
-pub read_is_text : (bytes : List ℕ) (c : Content) → read_of bytes ≡ Ok c → IsTextOf bytes c × (length bytes ≤ most_bytes)
-read_is_text bytes c e = let parted = long bytes c e in (bytes_are bytes c parted.1, ltb-false most_bytes (length bytes) parted.0)
+pub read_is_text : (bytes : List ℕ) (c : Content) → read_of bytes ≡ Ok c → IsTextOf bytes c × (length bytes ≤ MOST_BYTES)
+read_is_text bytes c e = let parted = long bytes c e in (bytes_are bytes c parted.1, ltb-false MOST_BYTES (length bytes) parted.0)
 
-pub text_is_read : (bytes : List ℕ) (c : Content) → length bytes ≤ most_bytes → IsTextOf bytes c → read_of bytes ≡ Ok c
+pub text_is_read : (bytes : List ℕ) (c : Content) → length bytes ≤ MOST_BYTES → IsTextOf bytes c → read_of bytes ≡ Ok c
 unfolding read_of
 text_is_read bytes c short is =
-    let fits : ltb most_bytes (length bytes) ≡ false = le-ltb most_bytes (length bytes) short in
+    let fits : ltb MOST_BYTES (length bytes) ≡ false = le-ltb MOST_BYTES (length bytes) short in
     rw fits (ap (λ (b : List ℕ). read_lines (parts 10 b)) is.1 ∙ text_reads c is.0)
 
 pub texts_differ : (bytes : List ℕ) (c d : Content) → IsTextOf bytes c → IsTextOf bytes d → c ≡ d
@@ -141,18 +143,18 @@ texts_differ bytes c d first second =
 
 -- ---- the forms, at a line that is spelled so
 
-pub as_penalty : (line : List ℕ) (v : ℕ) → line ≡ penalty_line v → 1 ≤ v → v ≤ most_units → penalty_of line ≡ Some v
+pub as_penalty : (line : List ℕ) (v : ℕ) → line ≡ penalty_line v → 1 ≤ v → v ≤ MOST_UNITS → penalty_of line ≡ Some v
 as_penalty line v is above below = ap penalty_of is ∙ penalty_again v above below
 
-pub as_interval : (line : List ℕ) (lower upper : ℕ) → line ≡ interval_line lower upper → lower ≤ most_units → upper ≤ most_units → interval_of line ≡ Some (lower, upper)
+pub as_interval : (line : List ℕ) (lower upper : ℕ) → line ≡ interval_line lower upper → lower ≤ MOST_UNITS → upper ≤ MOST_UNITS → interval_of line ≡ Some (lower, upper)
 as_interval line lower upper is low high = ap interval_of is ∙ interval_again lower upper low high
 
-pub as_count : (line : List ℕ) (n : ℕ) → line ≡ states_line n → n ≤ most_rows → count_of line ≡ Some n
+pub as_count : (line : List ℕ) (n : ℕ) → line ≡ states_line n → n ≤ MOST_ROWS → count_of line ≡ Some n
 as_count line n is few = ap count_of is ∙ count_again n few
 
 pub as_row : (line : List ℕ) (r : Row) → line ≡ row_line r → IsRow r → row_of line ≡ Some r
 as_row line r is formed = ap row_of is ∙ row_again r formed
 
-pub is_found : (bytes : List ℕ) (result : Result Content CertRefusal) → Gives (λ found. found) result (read_of bytes) → IfOk result (IsTextOf bytes)
+pub is_found : (bytes : List ℕ) (result : Result Content CertRefusal) → GivesCertificate (λ found. found) result (read_of bytes) → IfOk result (IsTextOf bytes)
 is_found bytes (Ok c) given = (read_is_text bytes c given).0
 is_found bytes (Err e) given = tt

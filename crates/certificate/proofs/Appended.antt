@@ -8,18 +8,18 @@ use Rattle.certificate.specs.declared.model.Row.{Row}
 use Rattle.certificate.specs.Spelling.{spaced, row_line}
 use Rattle.certificate.specs.Content.{Content, head_lines, ended, text_of}
 
-pub row_put : (old lower upper act atoms : List ℕ)
+pub row_pushed : (old lower upper act atoms : List ℕ)
     → (((((((old ++ lower) ++ 32 ∷ []) ++ upper) ++ 32 ∷ []) ++ act) ++ codes " :") ++ atoms) ++ 10 ∷ [] ≡ old ++ ended (spaced lower (spaced upper (spaced act (58 ∷ atoms))))
-row_put old lower upper act atoms = simp append_assoc
+row_pushed old lower upper act atoms = simp append_assoc
 
-pub named_put : (old name number : List ℕ) → (((old ++ name) ++ 32 ∷ []) ++ number) ++ 10 ∷ [] ≡ old ++ ended (spaced name number)
-named_put old name number = simp append_assoc
+pub named_pushed : (old name number : List ℕ) → (((old ++ name) ++ 32 ∷ []) ++ number) ++ 10 ∷ [] ≡ old ++ ended (spaced name number)
+named_pushed old name number = simp append_assoc
 
-pub interval_put : (old word lower upper : List ℕ) → ((((old ++ word) ++ lower) ++ 32 ∷ []) ++ upper) ++ 10 ∷ [] ≡ old ++ ended (word ++ spaced lower upper)
-interval_put old word lower upper = simp append_assoc
+pub interval_pushed : (old word lower upper : List ℕ) → ((((old ++ word) ++ lower) ++ 32 ∷ []) ++ upper) ++ 10 ∷ [] ≡ old ++ ended (word ++ spaced lower upper)
+interval_pushed old word lower upper = simp append_assoc
 
-pub lines_put : (old a b c d : List ℕ) → (((old ++ a) ++ b) ++ c) ++ d ≡ old ++ (a ++ (b ++ (c ++ (d ++ []))))
-lines_put old a b c d = simp (append_assoc, append-nil)
+pub lines_pushed : (old a b c d : List ℕ) → (((old ++ a) ++ b) ++ c) ++ d ≡ old ++ (a ++ (b ++ (c ++ (d ++ []))))
+lines_pushed old a b c d = simp (append_assoc, append-nil)
 
 -- ---- the text so far
 

@@ -1,12 +1,13 @@
 -- Where a text is cut, by places.
-use Rattle.std.proofs.Common.{◌≡◌, ℕ, zero, suc, ◌+◌, ◌-◌, ◌<◌, true, false, cond, ◌&&◌, eqb, List, [], ◌∷◌, ◌++◌, length, get_or, take, drop, Option, Some, None, option_map, refl, ap, sym, ◌∙◌, arith, inl, inr, MatchOption, nat_eq}
+use Rattle.std.proofs.Common.{◌≡◌, ℕ, zero, suc, ◌+◌, ◌-◌, ◌<◌, true, false, cond, ◌&&◌, eqb, List, [], ◌∷◌, ◌++◌, length, take, drop, Option, Some, None, option_map, refl, ap, sym, ◌∙◌, arith, inl, inr, MatchOption, nat_eq}
 use Rattle.std.specs.Prelude.{length}
 use Rattle.std.specs.Option.{option_copied}
 use Rattle.std.specs.Borrow.{Bor}
 use Rattle.std.specs.Cmp.Lexicographic.{pointwise}
 use Rattle.std.specs.List.{list_any}
 use Rattle.std.proofs.Math.Seq.{take-length}
-use Rattle.std.proofs.lemmas.Bool.{eq-eqb, ne_eqb, eqb-true}
+use Rattle.std.proofs.lemmas.Bool.{eq-eqb, eqb-true, false_from_ne_true}
+use Rattle.memchr.specs.Find.{Nowhere, Passes, IsFirstByte, is_byte}
 use Rattle.std.proofs.lemmas.Bool.Decides.{eqb_tells}
 use Rattle.std.proofs.lemmas.List.{length-drop}
 use Rattle.certificate.specs.Decoding.{behind, cut}
@@ -28,20 +29,25 @@ pub behind_found : (front text : List ℕ) (found : Option (Bor (List ℕ)))
 behind_found front text None is = sym (rw (behind_is front text, is) refl)
 behind_found front text (Some rest) is = rw (behind_is front text, is.0, is.1) refl
 
-pub cut_first : (c : ℕ) (text : List ℕ) (i : ℕ) → i < length text → ((k : ℕ) → k < i → get_or text k 0 ≡ c → ⊥) → get_or text i 0 ≡ c → cut c text ≡ Some (take i text, drop (suc i) text)
+cut_first : (c : ℕ) (text : List ℕ) (i : ℕ) → i < length text → Nowhere (Passes (is_byte c) text) 0 i → Passes (is_byte c) text i → cut c text ≡ Some (take i text, drop (suc i) text)
 cut_first c [] i lt before here = absurd (omega arith)
-cut_first c (b ∷ text) zero lt before here = rw (eq-eqb b c here) refl
+cut_first c (b ∷ text) zero lt before here = rw here refl
 cut_first c (b ∷ text) (suc i) lt before here =
-    let apart : eqb b c ≡ false = ne_eqb b c (λ e. before 0 (omega arith) e) in
-    let rest : cut c text ≡ Some (take i text, drop (suc i) text) = cut_first c text i (omega arith) (λ k h. before (suc k) (omega arith)) here in
+    let apart : eqb b c ≡ false = false_from_ne_true (eqb b c) (before 0 (omega arith) (omega arith)) in
+    let rest : cut c text ≡ Some (take i text, drop (suc i) text) = cut_first c text i (omega arith) (λ k low lt. before (suc k) (omega arith) (omega arith)) here in
     rw (apart, rest) refl
 
-pub cut_none : (c : ℕ) (text : List ℕ) → ((k : ℕ) → k < length text → get_or text k 0 ≡ c → ⊥) → cut c text ≡ None
+cut_none : (c : ℕ) (text : List ℕ) → Nowhere (Passes (is_byte c) text) 0 (length text) → cut c text ≡ None
 cut_none c [] apart = refl
 cut_none c (b ∷ text) apart =
-    let here : eqb b c ≡ false = ne_eqb b c (λ e. apart 0 (omega arith) e) in
-    let rest : cut c text ≡ None = cut_none c text (λ k h. apart (suc k) (omega arith)) in
+    let here : eqb b c ≡ false = false_from_ne_true (eqb b c) (apart 0 (omega arith) (omega arith)) in
+    let rest : cut c text ≡ None = cut_none c text (λ k low lt. apart (suc k) (omega arith) (omega arith)) in
     rw (here, rest) refl
+
+-- where the byte stands first, if it stands there
+pub cut_at : (c : ℕ) (text : List ℕ) (place : Option ℕ) → IsFirstByte (is_byte c) text place → cut c text ≡ option_map (λ i. (take i text, drop (suc i) text)) place
+cut_at c text None none = cut_none c text none
+cut_at c text (Some i) first = cut_first c text i first.0.high first.0.before first.1
 
 -- what a slice from n on holds
 pub take_rest : (n : ℕ) (text : List ℕ) → take (length text - n) (drop n text) ≡ drop n text

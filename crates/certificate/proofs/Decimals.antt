@@ -8,7 +8,7 @@ use Rattle.std.proofs.lemmas.Str.Parse.{IsNumeralModel, numerals_by_fold, tells_
 use Rattle.std.proofs.lemmas.Fmt.{decimal_nonempty, first_decimal, decimal_digit, decimal-digits_value, digits_decimal, digits_value-decimal}
 use Rattle.std.proofs.lemmas.Bool.{lt-leb, le-leb, leb-true, ne_eqb, eqb-false, not-true, and_right, and_parts, cases_lt}
 use Rattle.std.proofs.lemmas.List.{at_drop_more}
-use Rattle.certificate.specs.Content.{most_units}
+use Rattle.certificate.specs.declared.limits.TheConstants.{MOST_UNITS}
 use Rattle.certificate.specs.Decoding.{is_plain, number_after, number_of}
 use Rattle.certificate.proofs.Steps.{some_is, kept}
 
@@ -33,20 +33,20 @@ not_digit text i lt digit = at_drop_more all_ascii_digits text i 0 lt ∙ rw dig
 pub no_digits : (text : List ℕ) → all_ascii_digits text ≡ false → number_of text ≡ None
 unfolding number_of
 no_digits text apart =
-    let none : (is_plain text && all_ascii_digits text && leb (number_after 0 text) most_units) ≡ false = rw (and_right (is_plain text) (all_ascii_digits text) apart) refl in
+    let none : (is_plain text && all_ascii_digits text && leb (number_after 0 text) MOST_UNITS) ≡ false = rw (and_right (is_plain text) (all_ascii_digits text) apart) refl in
     rw none refl
 
-pub too_great : (text : List ℕ) → most_units < number_after 0 text → number_of text ≡ None
+pub too_great : (text : List ℕ) → MOST_UNITS < number_after 0 text → number_of text ≡ None
 unfolding number_of
 too_great text above =
-    let no : leb (number_after 0 text) most_units ≡ false = lt-leb _ _ above in
-    let none : (is_plain text && all_ascii_digits text && leb (number_after 0 text) most_units) ≡ false = rw no (and_right (is_plain text && all_ascii_digits text) false refl) in
+    let no : leb (number_after 0 text) MOST_UNITS ≡ false = lt-leb _ _ above in
+    let none : (is_plain text && all_ascii_digits text && leb (number_after 0 text) MOST_UNITS) ≡ false = rw no (and_right (is_plain text && all_ascii_digits text) false refl) in
     rw none refl
 
-pub is_number : (text : List ℕ) → is_plain text ≡ true → all_ascii_digits text ≡ true → number_after 0 text ≤ most_units → number_of text ≡ Some (number_after 0 text)
+pub is_number : (text : List ℕ) → is_plain text ≡ true → all_ascii_digits text ≡ true → number_after 0 text ≤ MOST_UNITS → number_of text ≡ Some (number_after 0 text)
 unfolding number_of
 is_number text plain digits below =
-    let fits : leb (number_after 0 text) most_units ≡ true = le-leb _ _ below in
+    let fits : leb (number_after 0 text) MOST_UNITS ≡ true = le-leb _ _ below in
     rw (plain, digits, fits) refl
 
 -- ---- the text of a number
@@ -68,7 +68,7 @@ is_plain-first [] long first = absurd (omega arith)
 is_plain-first (d ∷ []) long first = refl
 is_plain-first (d ∷ b ∷ ds) long first = rw (ne_eqb d 48 (λ e. omega arith)) refl
 
-pub decimal_is_plain : (n : ℕ) → n ≤ most_units → is_plain (decimal n) ≡ true
+pub decimal_is_plain : (n : ℕ) → n ≤ MOST_UNITS → is_plain (decimal n) ≡ true
 decimal_is_plain n below =
     elim (cases_lt 0 n) [
       | inl above ↦ is_plain-first (decimal n) (decimal_nonempty n (omega arith)) (first_decimal n above (omega arith))
@@ -79,18 +79,18 @@ decimal_is_plain n below =
     ]
 
 -- a number that was read is spelled so
-pub number_is : (text : List ℕ) (n : ℕ) → number_of text ≡ Some n → (text ≡ decimal n) × (n ≤ most_units)
+pub number_is : (text : List ℕ) (n : ℕ) → number_of text ≡ Some n → (text ≡ decimal n) × (n ≤ MOST_UNITS)
 unfolding number_of
 number_is text n e =
-    let passed = kept (is_plain text && all_ascii_digits text && leb (number_after 0 text) most_units) (Some (number_after 0 text)) n e in
+    let passed = kept (is_plain text && all_ascii_digits text && leb (number_after 0 text) MOST_UNITS) (Some (number_after 0 text)) n e in
     let value : number_after 0 text ≡ n = some_is (number_after 0 text) n passed.1 in
-    let last = and_parts (is_plain text && all_ascii_digits text) (leb (number_after 0 text) most_units) passed.0 in
+    let last = and_parts (is_plain text && all_ascii_digits text) (leb (number_after 0 text) MOST_UNITS) passed.0 in
     let both = and_parts (is_plain text) (all_ascii_digits text) last.0 in
-    let below : number_after 0 text ≤ most_units = leb-true _ _ last.1 in
+    let below : number_after 0 text ≤ MOST_UNITS = leb-true _ _ last.1 in
     let spelled : decimal (number_after 0 text) ≡ text = decimal-digits_value own text both.1 (is_plain-long text both.0) (is_plain-zero text both.0) (omega arith) in
     (sym spelled ∙ ap decimal value, omega arith)
 
-pub number_again : (n : ℕ) → n ≤ most_units → number_of (decimal n) ≡ Some n
+pub number_again : (n : ℕ) → n ≤ MOST_UNITS → number_of (decimal n) ≡ Some n
 number_again n below =
     let value : number_after 0 (decimal n) ≡ n = digits_value-decimal own n (omega arith) in
     is_number (decimal n) (decimal_is_plain n below) (digits_decimal own n (omega arith)) (omega (arith, value)) ∙ ap (λ (v : ℕ). Some v) value
@@ -104,5 +104,5 @@ digits_lack c (d ∷ ds) low digits =
     rw (ne_eqb d c (λ e. omega arith), digits_lack c ds low both.1) refl
 
 -- no blank and no line feed stands in a number
-pub decimal_lacks : (c n : ℕ) → c < 48 → n ≤ most_units → list_any (λ b. eqb b c) (decimal n) ≡ false
+pub decimal_lacks : (c n : ℕ) → c < 48 → n ≤ MOST_UNITS → list_any (λ b. eqb b c) (decimal n) ≡ false
 decimal_lacks c n low below = digits_lack c (decimal n) low (digits_decimal own n (omega arith))

@@ -6,25 +6,25 @@ use Rattle.certificate.specs.declared.refusal.CertRefusal.{CertRefusal}
 use Rattle.certificate.specs.declared.refusal.CertRefusal.TheVariants.{Syntax}
 use Rattle.certificate.specs.Decoding.{cut, parts}
 use Rattle.certificate.specs.Reading.{line_at, or_syntax, nothing_at}
-use Rattle.certificate.specs.Answers.{Gives, Refuses}
+use Rattle.certificate.specs.Answers.{GivesCertificate, Refuses}
+use Rattle.plain_list.proofs.Results.{ok_is}
 use Rattle.certificate.proofs.Parts.{HasFirst-parts, parts_cut, parts_whole, line_found}
-
-abbrev done : {X : Type 0} → X → Result X CertRefusal
-done x = Ok x
 
 abbrev failed : {X : Type 0} → CertRefusal → Result X CertRefusal
 failed e = Err e
-
-ok_is : {X : Type 0} (x y : X) → done x ≡ done y → x ≡ y
-ok_is x y e = cc
 
 err_is : {X : Type 0} (d e : CertRefusal) → failed {X = X} d ≡ failed e → d ≡ e
 err_is d e same = cc
 
 pub line_given : (k : ℕ) (bytes : List ℕ) (found : Option (Bor (List ℕ) × Bor (List ℕ))) → option_map (λ p. (p.0.now, p.1.now)) found ≡ cut 10 bytes
-    → Gives (λ p. (p.0.now, parts 10 p.1.now)) (ok_or found (Syntax k)) (line_at k (parts 10 bytes))
+    → GivesCertificate (λ p. (p.0.now, parts 10 p.1.now)) (ok_or found (Syntax k)) (line_at k (parts 10 bytes))
 line_given k bytes None e = rw (parts_whole 10 bytes (sym e)) refl
 line_given k bytes (Some p) e = rw (parts_cut 10 bytes p.0.now p.1.now (sym e)) (line_found k p.0.now p.1.now)
+
+-- what a line says in its form
+pub in_form : {A : Type 0} (k : ℕ) (o read : Option A) (x : A) → Ok x ≡ ok_or o (Syntax k) → o ≡ read → or_syntax k read ≡ Ok x
+in_form k None read x e is = absurd cc
+in_form k (Some y) read x e is = ap (or_syntax k) (sym is) ∙ sym e
 
 -- a value that `ok_or` passed on
 pub passed : {X Y : Type 0} (view : X → Y) (o : Option X) (refusal : CertRefusal) (x : X) (read : Option Y) → Ok x ≡ ok_or o refusal → option_map view o ≡ read → Some (view x) ≡ read

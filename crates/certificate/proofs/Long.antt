@@ -3,9 +3,9 @@ use Rattle.std.proofs.Common.{◌≡◌, ℕ, zero, suc, ◌+◌, ◌<◌, Bool,
 use Rattle.std.specs.Prelude.{codes}
 use Rattle.std.specs.Str.{bytes_eq}
 use Rattle.std.proofs.lemmas.Bool.{cases_Bool, ltb-true, lt-ltb}
+use Rattle.certificate.specs.declared.limits.TheConstants.{MOST_BYTES}
 use Rattle.certificate.specs.declared.refusal.CertRefusal.{CertRefusal}
 use Rattle.certificate.specs.declared.refusal.CertRefusal.TheVariants.{Syntax, Order, Count, TooLong}
-use Rattle.certificate.specs.Content.{most_bytes}
 use Rattle.plain_list.specs.Texts.{rises, compare_texts}
 use Rattle.certificate.specs.Decoding.{parts, penalty_of, interval_of, count_of, row_of}
 use Rattle.plain_list.specs.Results.{◌>>=◌}
@@ -97,14 +97,14 @@ IsShort-lines lines =
     )
     )
 
-pub is_long : (bytes : List ℕ) → read_of bytes ≡ Err TooLong → most_bytes < length bytes
+pub is_long : (bytes : List ℕ) → read_of bytes ≡ Err TooLong → MOST_BYTES < length bytes
 unfolding read_of
 is_long bytes e =
-    elim (cases_Bool (ltb most_bytes (length bytes))) [
-      | inl above ↦ ltb-true most_bytes (length bytes) above
+    elim (cases_Bool (ltb MOST_BYTES (length bytes))) [
+      | inl above ↦ ltb-true MOST_BYTES (length bytes) above
       | inr below ↦ (let read : read_lines (parts 10 bytes) ≡ Err TooLong = rw below at e in absurd (IsShort-lines (parts 10 bytes) read))
     ]
 
-pub long_is_refused : (bytes : List ℕ) → most_bytes < length bytes → read_of bytes ≡ Err TooLong
+pub long_is_refused : (bytes : List ℕ) → MOST_BYTES < length bytes → read_of bytes ≡ Err TooLong
 unfolding read_of
-long_is_refused bytes above = let test : ltb most_bytes (length bytes) ≡ true = lt-ltb most_bytes (length bytes) above in rw test refl
+long_is_refused bytes above = let test : ltb MOST_BYTES (length bytes) ≡ true = lt-ltb MOST_BYTES (length bytes) above in rw test refl

@@ -1,10 +1,14 @@
 -- Lists of names: what was read is one, and one is read again.
-use Rattle.std.proofs.Common.{◌≡◌, ℕ, ◌<◌, ◌≤◌, Bool, true, false, ◌&&◌, ◌||◌, eqb, leb, List, [], ◌∷◌, ◌++◌, length, refl, ap, sym, inl, inr, arith}
+use Rattle.std.proofs.Common.{◌≡◌, ℕ, ◌<◌, ◌≤◌, true, false, eqb, List, [], ◌∷◌, ◌++◌, length, refl, ap, sym, arith}
+use Rattle.std.proofs.lemmas.Bool.Decides.{nat_tests}
 use Rattle.std.specs.List.{list_any, list_all, join_with_byte, AllByRecursion}
-use Rattle.std.proofs.lemmas.Bool.{and_parts, or_cases, leb-true, eqb-true, ne_eqb}
+use Rattle.std.proofs.lemmas.Slice.Eq.{bytes_eq-Decides}
+use Rattle.std.proofs.lemmas.Bool.{and_parts, ne_eqb}
 use Rattle.std.proofs.lemmas.List.Splits.{join_with_byte-slice_split}
-use Rattle.certificate.specs.Names.{is_letter, is_digit, is_name_byte, is_name, begins_with_letter, IsNameList}
+use Rattle.ppddl_lex.specs.Words.{lowered, is_same_word, is_name_byte, has_name_form, is_name}
+use Rattle.certificate.specs.Names.{is_lower_name, IsNameList}
 use Rattle.certificate.specs.Decoding.{parts, are_names, enclosed}
+use Rattle.certificate.proofs.Steps.{or_parts}
 use Rattle.certificate.proofs.Parts.{HasFirst-parts, parts_join}
 
 abbrev pub Lacks : ℕ → List ℕ → Type 0
@@ -13,26 +17,12 @@ Lacks c text = list_any (λ b. eqb b c) text ≡ false
 pub Lacks-append : (c : ℕ) (front rest : List ℕ) → Lacks c front → Lacks c rest → Lacks c (front ++ rest)
 Lacks-append c [] rest p q = q
 Lacks-append c (b ∷ front) rest p q =
-    let both = parted (eqb b c) (list_any (λ b. eqb b c) front) p in
+    let both = or_parts (eqb b c) (list_any (λ b. eqb b c) front) p in
     rw (both.0, Lacks-append c front rest both.1 q) refl
-  where
-    parted : (a b : Bool) → (a || b) ≡ false → (a ≡ false) × (b ≡ false)
-    parted true b e = absurd cc
-    parted false b e = (refl, e)
 
 -- a byte of a name is `-` or above
 name_byte_ge : (b : ℕ) → is_name_byte b ≡ true → 45 ≤ b
-name_byte_ge b e =
-    elim (or_cases (is_letter b || is_digit b || eqb b 45) (eqb b 95) e) [
-      | inr underscore ↦ omega (arith, eqb-true b 95 underscore)
-      | inl others ↦ elim (or_cases (is_letter b || is_digit b) (eqb b 45) others) [
-        | inr dash ↦ omega (arith, eqb-true b 45 dash)
-        | inl two ↦ elim (or_cases (is_letter b) (is_digit b) two) [
-          | inl letter ↦ omega (arith, leb-true 97 b (and_parts (leb 97 b) (leb b 122) letter).0)
-          | inr digit ↦ omega (arith, leb-true 48 b (and_parts (leb 48 b) (leb b 57) digit).0)
-        ]
-      ]
-    ]
+name_byte_ge b e = grind (arith, nat_tests)
 
 name_bytes_lack : (c : ℕ) (w : List ℕ) → c < 45 → list_all is_name_byte w ≡ true → Lacks c w
 name_bytes_lack c [] low bytes = refl
@@ -41,15 +31,27 @@ name_bytes_lack c (b ∷ w) low bytes =
     let high = name_byte_ge b both.0 in
     rw (ne_eqb b c (λ e. omega arith), name_bytes_lack c w low both.1) refl
 
-name_lacks : (c : ℕ) (w : List ℕ) → c < 45 → is_name w ≡ true → Lacks c w
-name_lacks c w low named =
-    let first = and_parts (begins_with_letter w && list_all is_name_byte w) _ named in
-    name_bytes_lack c w low (and_parts (begins_with_letter w) (list_all is_name_byte w) first.0).1
+form_lacks : (c : ℕ) (w : List ℕ) → c < 45 → has_name_form w ≡ true → Lacks c w
+form_lacks c [] low form = refl
+form_lacks c (b ∷ w) low form =
+    let both = and_parts _ (list_all is_name_byte w) form in
+    let high : 45 ≤ b = grind (arith, nat_tests, both.0) in
+    rw (ne_eqb b c (λ e. omega arith), name_bytes_lack c w low both.1) refl
 
-names_lack : (c : ℕ) (names : List (List ℕ)) → c < 45 → list_all is_name names ≡ true → AllByRecursion (Lacks c) names
+-- a name in lower case has the form of names as it stands
+lower_form : (w : List ℕ) → is_lower_name w ≡ true → has_name_form w ≡ true
+lower_form w named =
+    let both = and_parts (is_name w) (is_same_word w w) named in
+    let same : lowered w ≡ w = (bytes_eq-Decides (lowered w) w).0 both.1 in
+    grind (arith, nat_tests, both.0, same)
+
+name_lacks : (c : ℕ) (w : List ℕ) → c < 45 → is_lower_name w ≡ true → Lacks c w
+name_lacks c w low named = form_lacks c w low (lower_form w named)
+
+names_lack : (c : ℕ) (names : List (List ℕ)) → c < 45 → list_all is_lower_name names ≡ true → AllByRecursion (Lacks c) names
 names_lack c [] low named = tt
 names_lack c (w ∷ names) low named =
-    let both = and_parts (is_name w) (list_all is_name names) named in
+    let both = and_parts (is_lower_name w) (list_all is_lower_name names) named in
     (name_lacks c w low both.0, names_lack c names low both.1)
 
 joined_lacks : (c : ℕ) (names : List (List ℕ)) → (32 ≡ c → ⊥) → AllByRecursion (Lacks c) names → Lacks c (join_with_byte 32 names)

@@ -1,5 +1,5 @@
 -- A text that is cut at each of a byte.
-use Rattle.std.proofs.Common.{◌≡◌, ℕ, true, false, cond, eqb, List, [], ◌∷◌, ◌++◌, Some, None, option_map, Ok, refl, ap, sym, ◌∙◌, inl, inr, ◌<◌, length, arith, append_assoc}
+use Rattle.std.proofs.Common.{Option, ◌≡◌, ℕ, true, false, cond, eqb, List, [], ◌∷◌, ◌++◌, Some, None, option_map, Ok, refl, ap, sym, ◌∙◌, inl, inr, ◌<◌, length, arith, append_assoc}
 use Rattle.std.specs.List.{onto_first, list_any, join_with_byte, flat_map, AllByRecursion}
 use Rattle.std.proofs.lemmas.Bool.Decides.{eqb_tells}
 use Rattle.std.proofs.lemmas.List.{append-nil}
@@ -49,7 +49,11 @@ parts_whole c [] e = refl
 parts_whole c (b ∷ text) e =
     let longer : List ℕ × List ℕ → List ℕ × List ℕ = λ p. (b ∷ p.0, p.1) in
     elim (eqb_tells b c) [
-      | inl here ↦ (let at : Some ([], text) ≡ None = rw here.0 at e in absurd cc)
+      | inl here ↦ (
+          let none : Option (List ℕ × List ℕ) = None in
+          let at : Some ([], text) ≡ none = rw here.0 at e in
+          absurd cc
+          )
       | inr apart ↦ (
           let later : option_map longer (cut c text) ≡ None = rw apart.0 at e in
           rw apart.0 (ap (onto_first b) (parts_whole c text (unmapped longer (cut c text) later)))

@@ -6,12 +6,13 @@ use Rattle.std.specs.List.{join_with_byte, flat_map, AllByRecursion}
 use Rattle.std.proofs.lemmas.Bool.{eqb-true}
 use Rattle.std.proofs.lemmas.List.{nil_from_length}
 use Rattle.std.proofs.lemmas.List.Splits.{join_with_byte-slice_split}
+use Rattle.certificate.specs.declared.limits.TheConstants.{MOST_UNITS}
 use Rattle.certificate.specs.declared.model.Act.{Act}
 use Rattle.certificate.specs.declared.model.Act.TheVariants.{GiveUp, Goal, Do}
 use Rattle.certificate.specs.declared.model.Row.{Row}
 use Rattle.certificate.specs.Names.{IsNameList}
 use Rattle.certificate.specs.Spelling.{spaced, act_text, atoms_text, row_line}
-use Rattle.certificate.specs.Content.{most_units, IsAct, IsRow}
+use Rattle.certificate.specs.Content.{IsAct, IsRow}
 use Rattle.certificate.specs.Decoding.{◌>>=◌, only_if, behind, cut, parts, number_of, are_names, enclosed, list_at, word_at, act_at, atom_of, atom_at, atoms_of, field_at, row_of}
 use Rattle.certificate.proofs.Steps.{some_is, kept, chained, mapped, either}
 use Rattle.certificate.proofs.Cuts.{behind_is_rest, cut_is_parts, cut_again}
@@ -21,7 +22,7 @@ use Rattle.certificate.proofs.Atoms.{atoms_more}
 
 -- ---- a number that a blank ends
 
-pub field_is : (text : List ℕ) (n : ℕ) (rest : List ℕ) → field_at text ≡ Some (n, rest) → (text ≡ spaced (decimal n) rest) × (n ≤ most_units)
+pub field_is : (text : List ℕ) (n : ℕ) (rest : List ℕ) → field_at text ≡ Some (n, rest) → (text ≡ spaced (decimal n) rest) × (n ≤ MOST_UNITS)
 unfolding field_at
 field_is text n rest e =
     let found = chained (cut 32 text) (λ p. number_of p.0 >>= λ m. Some (m, p.1)) (n, rest) e in
@@ -33,7 +34,7 @@ field_is text n rest e =
     let whole : text ≡ spaced found.0.0 found.0.1 = cut_is_parts 32 text found.0.0 found.0.1 found.1 in
     (whole ∙ ap (λ (x : List ℕ). spaced x found.0.1) (spelled.0 ∙ ap decimal value) ∙ ap (spaced (decimal n)) after, omega (arith, spelled.1))
 
-pub field_again : (n : ℕ) (rest : List ℕ) → n ≤ most_units → field_at (spaced (decimal n) rest) ≡ Some (n, rest)
+pub field_again : (n : ℕ) (rest : List ℕ) → n ≤ MOST_UNITS → field_at (spaced (decimal n) rest) ≡ Some (n, rest)
 unfolding field_at
 field_again n rest below = rw (cut_again 32 (decimal n) rest (decimal_lacks 32 n (omega arith) below), number_again n below) refl
 

@@ -6,15 +6,17 @@ use Rattle.std.specs.Str.{bytes_eq}
 use Rattle.std.proofs.lemmas.Bool.{and_parts, eqb-true, leb-true, ltb-true, lt-ltb, le-leb}
 use Rattle.std.proofs.lemmas.List.{nil_from_length}
 use Rattle.std.proofs.lemmas.Slice.Eq.{bytes_eq-Decides}
+use Rattle.certificate.specs.declared.limits.TheConstants.{MOST_UNITS, MOST_ROWS}
 use Rattle.certificate.specs.declared.model.Row.{Row}
 use Rattle.certificate.specs.declared.refusal.CertRefusal.{CertRefusal}
 use Rattle.certificate.specs.declared.refusal.CertRefusal.TheVariants.{Syntax, Order, Count}
 use Rattle.certificate.specs.Spelling.{spaced, penalty_line, interval_line, states_line, row_line}
-use Rattle.certificate.specs.Content.{Content, most_units, most_rows, compare_atoms, IsRow, IsCertificate, lines_of}
+use Rattle.certificate.specs.Content.{Content, compare_atoms, IsRow, IsCertificate, lines_of}
 use Rattle.plain_list.specs.Texts.{rises, rises_behind, compare_texts}
 use Rattle.certificate.specs.Decoding.{only_if, behind, parts, number_of, field_at, penalty_of, interval_of, count_of, row_of}
 use Rattle.certificate.specs.Decoding as decoding
 use Rattle.plain_list.specs.Results.{◌>>=◌}
+use Rattle.plain_list.proofs.Results.{bind_ok, ok_is, test_passes, test_fails}
 use Rattle.certificate.specs.Reading.{or_syntax, line_at, said_at, header_of, follows, row_at, rows_at, nothing_at, end_at, read_lines}
 use Rattle.certificate.proofs.Steps.{some_is, kept, chained}
 use Rattle.certificate.proofs.Cuts.{behind_is_rest}
@@ -23,28 +25,12 @@ use Rattle.certificate.proofs.RowLaws.{field_is, field_again, row_is}
 
 -- ---- steps that did not fail
 
-abbrev pub done : {A : Type 0} → A → Result A CertRefusal
+abbrev done : {A : Type 0} → A → Result A CertRefusal
 done x = Ok x
-
-pub ok_is : {A : Type 0} (x y : A) → done x ≡ done y → x ≡ y
-ok_is x y e = cc
-
-passed : {A B : Type 0} (read : Result A CertRefusal) (f : A → Result B CertRefusal) (y : B) → (read >>= f) ≡ Ok y → (x : A) × (read ≡ Ok x) × (f x ≡ Ok y)
-passed (Err e) f y is = absurd cc
-passed (Ok x) f y is = (x, refl, is)
 
 said : {A : Type 0} (k : ℕ) (o : Option A) (x : A) → or_syntax k o ≡ Ok x → o ≡ Some x
 said k None x e = absurd cc
 said {A} k (Some y) x e = ap (λ (z : A). Some z) (ok_is y x e)
-
--- one test that was passed, or one that was failed
-tested : {A : Type 0} (test : Bool) (refusal : CertRefusal) (x y : A) → cond test (Ok x) (Err refusal) ≡ Ok y → (test ≡ true) × (x ≡ y)
-tested true refusal x y e = (refl, ok_is x y e)
-tested false refusal x y e = absurd cc
-
-pub untested : {A : Type 0} (test : Bool) (refusal : CertRefusal) (read : Result A CertRefusal) (y : A) → cond test (Err refusal) read ≡ Ok y → (test ≡ false) × (read ≡ Ok y)
-untested true refusal read y e = absurd cc
-untested false refusal read y e = (refl, e)
 
 pub same_text : (a b : List ℕ) → bytes_eq a b ≡ true → a ≡ b
 same_text a b e = (bytes_eq-Decides a b).0 e
@@ -59,8 +45,8 @@ line_is k (first ∷ next ∷ more) line rest e = ap (λ (p : List ℕ × List (
 said_is : {A : Type 0} (form : List ℕ → Option A) (k : ℕ) (lines : List (List ℕ)) (x : A) (rest : List (List ℕ)) → said_at form k lines ≡ Ok (x, rest) → (line : List ℕ) × (lines ≡ line ∷ rest) × (form line ≡ Some x)
 unfolding said_at
 said_is {A} form k lines x rest e =
-    let found = passed (line_at k lines) (λ line. or_syntax k (form line.0) >>= λ y. Ok (y, line.1)) (x, rest) e in
-    let formed = passed (or_syntax k (form found.0.0)) (λ y. Ok (y, found.0.1)) (x, rest) found.2 in
+    let found = bind_ok (line_at k lines) (λ line. or_syntax k (form line.0) >>= λ y. Ok (y, line.1)) (x, rest) e in
+    let formed = bind_ok (or_syntax k (form found.0.0)) (λ y. Ok (y, found.0.1)) (x, rest) found.2 in
     let same = ok_is (formed.0, found.0.1) (x, rest) formed.2 in
     let value = ap (λ p. p.0) same in
     let after : found.0.1 ≡ rest = ap (λ p. p.1) same in
@@ -69,7 +55,7 @@ said_is {A} form k lines x rest e =
 pub header_is : (line : List ℕ) (u : Unit {0}) → header_of line ≡ Some u → line ≡ codes "cert 1"
 header_is line u e = same_text line (codes "cert 1") (kept (bytes_eq line (codes "cert 1")) (Some tt) u e).0
 
-pub penalty_is : (line : List ℕ) (v : ℕ) → penalty_of line ≡ Some v → (line ≡ penalty_line v) × (1 ≤ v) × (v ≤ most_units)
+pub penalty_is : (line : List ℕ) (v : ℕ) → penalty_of line ≡ Some v → (line ≡ penalty_line v) × (1 ≤ v) × (v ≤ MOST_UNITS)
 unfolding penalty_of
 penalty_is line v e =
     let text = chained (behind (codes "penalty ") line) (λ t. decoding.◌>>=◌ (number_of t) (λ n. only_if (ltb 0 n) n)) v e in
@@ -80,11 +66,11 @@ penalty_is line v e =
     let positive = ltb-true 0 number.0 above.0 in
     (behind_is_rest (codes "penalty ") line text.0 text.1 ∙ ap (spaced (codes "penalty")) (spelled.0 ∙ ap decimal value), omega arith, omega (arith, spelled.1))
 
-pub penalty_again : (v : ℕ) → 1 ≤ v → v ≤ most_units → penalty_of (penalty_line v) ≡ Some v
+pub penalty_again : (v : ℕ) → 1 ≤ v → v ≤ MOST_UNITS → penalty_of (penalty_line v) ≡ Some v
 unfolding penalty_of
 penalty_again v above below = rw (number_again v below, lt-ltb 0 v above) refl
 
-pub interval_is : (line : List ℕ) (lower upper : ℕ) → interval_of line ≡ Some (lower, upper) → (line ≡ interval_line lower upper) × (lower ≤ most_units) × (upper ≤ most_units)
+pub interval_is : (line : List ℕ) (lower upper : ℕ) → interval_of line ≡ Some (lower, upper) → (line ≡ interval_line lower upper) × (lower ≤ MOST_UNITS) × (upper ≤ MOST_UNITS)
 unfolding interval_of
 interval_is line lower upper e =
     let text = chained (behind (codes "interval ") line) (λ t. decoding.◌>>=◌ (field_at t) (λ l. decoding.◌>>=◌ (number_of l.1) (λ u. Some (l.0, u)))) (lower, upper) e in
@@ -100,24 +86,24 @@ interval_is line lower upper e =
       omega (arith, second.1),
     )
 
-pub interval_again : (lower upper : ℕ) → lower ≤ most_units → upper ≤ most_units → interval_of (interval_line lower upper) ≡ Some (lower, upper)
+pub interval_again : (lower upper : ℕ) → lower ≤ MOST_UNITS → upper ≤ MOST_UNITS → interval_of (interval_line lower upper) ≡ Some (lower, upper)
 unfolding interval_of
 interval_again lower upper l u = rw (field_again lower (decimal upper) l, number_again upper u) refl
 
-pub count_is : (line : List ℕ) (n : ℕ) → count_of line ≡ Some n → (line ≡ states_line n) × (n ≤ most_rows)
+pub count_is : (line : List ℕ) (n : ℕ) → count_of line ≡ Some n → (line ≡ states_line n) × (n ≤ MOST_ROWS)
 unfolding count_of
 count_is line n e =
-    let text = chained (behind (codes "states ") line) (λ t. decoding.◌>>=◌ (number_of t) (λ m. only_if (leb m most_rows) m)) n e in
-    let number = chained (number_of text.0) (λ m. only_if (leb m most_rows) m) n text.2 in
-    let below = kept (leb number.0 most_rows) (Some number.0) n number.2 in
+    let text = chained (behind (codes "states ") line) (λ t. decoding.◌>>=◌ (number_of t) (λ m. only_if (leb m MOST_ROWS) m)) n e in
+    let number = chained (number_of text.0) (λ m. only_if (leb m MOST_ROWS) m) n text.2 in
+    let below = kept (leb number.0 MOST_ROWS) (Some number.0) n number.2 in
     let value : number.0 ≡ n = some_is number.0 n below.1 in
     let spelled = number_is text.0 number.0 number.1 in
-    let few = leb-true number.0 most_rows below.0 in
+    let few = leb-true number.0 MOST_ROWS below.0 in
     (behind_is_rest (codes "states ") line text.0 text.1 ∙ ap (spaced (codes "states")) (spelled.0 ∙ ap decimal value), omega arith)
 
-pub count_again : (n : ℕ) → n ≤ most_rows → count_of (states_line n) ≡ Some n
+pub count_again : (n : ℕ) → n ≤ MOST_ROWS → count_of (states_line n) ≡ Some n
 unfolding count_of
-count_again n few = rw (number_again n (omega arith), le-leb n most_rows few) refl
+count_again n few = rw (number_again n (omega arith), le-leb n MOST_ROWS few) refl
 
 -- ---- rows
 
@@ -150,9 +136,9 @@ Stand-cons before r rows formed rise behind others = record {
 row_stands : (before : Option (List (List ℕ))) (k : ℕ) (line : List ℕ) (r : Row) → row_at before k line ≡ Ok r → (line ≡ row_line r) × IsRow r × (rises compare_texts r.atoms ≡ true) × (follows before r.atoms ≡ true)
 unfolding row_at
 row_stands before k line r e =
-    let no_end = untested (bytes_eq line (codes "end")) (Count k) (or_syntax k (row_of line) >>= λ s. cond (rises compare_texts s.atoms && follows before s.atoms) (Ok s) (Err (Order k))) r e in
-    let found = passed (or_syntax k (row_of line)) (λ s. cond (rises compare_texts s.atoms && follows before s.atoms) (Ok s) (Err (Order k))) r no_end.1 in
-    let ordered = tested (rises compare_texts found.0.atoms && follows before found.0.atoms) (Order k) found.0 r found.2 in
+    let no_end = test_fails (bytes_eq line (codes "end")) (Count k) (or_syntax k (row_of line) >>= λ s. cond (rises compare_texts s.atoms && follows before s.atoms) (Ok s) (Err (Order k))) r e in
+    let found = bind_ok (or_syntax k (row_of line)) (λ s. cond (rises compare_texts s.atoms && follows before s.atoms) (Ok s) (Err (Order k))) r no_end.1 in
+    let ordered = test_passes (rises compare_texts found.0.atoms && follows before found.0.atoms) found.0 (Order k) r found.2 in
     let same : found.0 ≡ r = ordered.1 in
     let is : row_of line ≡ Some r = said k (row_of line) found.0 found.1 ∙ ap (λ (s : Row). Some s) same in
     let spelled = row_is line r is in
@@ -166,9 +152,9 @@ rows_are zero before k lines rows rest e =
     let same = ok_is ([], lines) (rows, rest) e in
     subst (λ (p : List Row × List (List ℕ)). (lines ≡ map row_line p.0 ++ p.1) × (length p.0 ≡ 0) × Stand before p.0) same (refl, refl, Stand-none before)
 rows_are (suc n) before k lines rows rest e =
-    let line = passed (line_at k lines) (λ l. row_at before k l.0 >>= λ r. rows_at n (Some r.atoms) (k + 1) l.1 >>= λ others. Ok (r ∷ others.0, others.1)) (rows, rest) e in
-    let row = passed (row_at before k line.0.0) (λ r. rows_at n (Some r.atoms) (k + 1) line.0.1 >>= λ others. Ok (r ∷ others.0, others.1)) (rows, rest) line.2 in
-    let others = passed (rows_at n (Some row.0.atoms) (k + 1) line.0.1) (λ o. Ok (row.0 ∷ o.0, o.1)) (rows, rest) row.2 in
+    let line = bind_ok (line_at k lines) (λ l. row_at before k l.0 >>= λ r. rows_at n (Some r.atoms) (k + 1) l.1 >>= λ others. Ok (r ∷ others.0, others.1)) (rows, rest) e in
+    let row = bind_ok (row_at before k line.0.0) (λ r. rows_at n (Some r.atoms) (k + 1) line.0.1 >>= λ others. Ok (r ∷ others.0, others.1)) (rows, rest) line.2 in
+    let others = bind_ok (rows_at n (Some row.0.atoms) (k + 1) line.0.1) (λ o. Ok (row.0 ∷ o.0, o.1)) (rows, rest) row.2 in
     let same = ok_is (row.0 ∷ others.0.0, others.0.1) (rows, rest) others.2 in
     let one = row_stands before k line.0.0 row.0 row.1 in
     let more = rows_are n (Some row.0.atoms) (k + 1) line.0.1 others.0.0 others.0.1 others.1 in
@@ -185,14 +171,14 @@ rows_are (suc n) before k lines rows rest e =
 nothing_is : (k : ℕ) (rest : List (List ℕ)) (u : Unit {0}) → nothing_at k rest ≡ Ok u → rest ≡ [] ∷ []
 nothing_is k [] u e = absurd cc
 nothing_is k (last ∷ []) u e =
-    let empty = tested (eqb (length last) 0) (Syntax k) tt u e in
+    let empty = test_passes (eqb (length last) 0) tt (Syntax k) u e in
     ap (λ (text : List ℕ). text ∷ []) (nil_from_length last (eqb-true (length last) 0 empty.0))
 nothing_is k (line ∷ next ∷ more) u e = absurd cc
 
 end_is : (k : ℕ) (lines : List (List ℕ)) (u : Unit {0}) → end_at k lines ≡ Ok u → lines ≡ codes "end" ∷ [] ∷ []
 unfolding end_at
 end_is k lines u e =
-    let line = passed (line_at k lines) (λ l. cond (bytes_eq l.0 (codes "end")) (nothing_at (k + 1) l.1) (or_syntax k (row_of l.0) >>= λ r. Err (Count k))) u e in
+    let line = bind_ok (line_at k lines) (λ l. cond (bytes_eq l.0 (codes "end")) (nothing_at (k + 1) l.1) (or_syntax k (row_of l.0) >>= λ r. Err (Count k))) u e in
     line_is k lines line.0.0 line.0.1 line.1 ∙ ended line.0.0 line.0.1 line.2
   where
     counted : (o : Option Row) → (or_syntax k o >>= λ r. Err (Count k)) ≡ done u → ⊥
@@ -236,12 +222,12 @@ after_header header = said_at penalty_of 2 header.1 >>= after_penalty
 pub read_is : (lines : List (List ℕ)) (c : Content) → read_lines lines ≡ Ok c → IsCertificate c × (lines ≡ lines_of c ++ [] ∷ [])
 unfolding read_lines
 read_is lines c e =
-    let header = passed (said_at header_of 1 lines) after_header c e in
-    let penalty = passed (said_at penalty_of 2 header.0.1) after_penalty c header.2 in
-    let interval = passed (said_at interval_of 3 penalty.0.1) (after_interval penalty.0) c penalty.2 in
-    let count = passed (said_at count_of 4 interval.0.1) (after_count penalty.0 interval.0) c interval.2 in
-    let rows = passed (rows_at count.0.0 None 5 count.0.1) (after_rows penalty.0 interval.0 count.0) c count.2 in
-    let ended = passed (end_at (5 + count.0.0) rows.0.1) (λ u. Ok (content penalty.0.0 interval.0.0 rows.0.0)) c rows.2 in
+    let header = bind_ok (said_at header_of 1 lines) after_header c e in
+    let penalty = bind_ok (said_at penalty_of 2 header.0.1) after_penalty c header.2 in
+    let interval = bind_ok (said_at interval_of 3 penalty.0.1) (after_interval penalty.0) c penalty.2 in
+    let count = bind_ok (said_at count_of 4 interval.0.1) (after_count penalty.0 interval.0) c interval.2 in
+    let rows = bind_ok (rows_at count.0.0 None 5 count.0.1) (after_rows penalty.0 interval.0 count.0) c count.2 in
+    let ended = bind_ok (end_at (5 + count.0.0) rows.0.1) (λ u. Ok (content penalty.0.0 interval.0.0 rows.0.0)) c rows.2 in
     let same : content penalty.0.0 interval.0.0 rows.0.0 ≡ c = ok_is (content penalty.0.0 interval.0.0 rows.0.0) c ended.2 in
     let line1 = said_is header_of 1 lines header.0.0 header.0.1 header.1 in
     let line2 = said_is penalty_of 2 header.0.1 penalty.0.0 penalty.0.1 penalty.1 in

@@ -2,18 +2,21 @@
 --     behind front text      what stands behind the front, if the text begins with it
 --     cut c text             the text before the first c, and the text behind it
 --     parts c text           the text cut at each c; nothing ends the last part
---     number_of text         the number of at most 10^14 that the text is in decimal, without leading zeros
+--     number_of text         the number of at most MOST_UNITS that the text is in decimal, without
+--                            leading zeros
 --     list_at text           the list of names that the text begins with, and what stands behind it
 --     penalty_of, interval_of, count_of, row_of      what a line says in its place
-use Rattle.std.specs.Prelude.{ℕ, ◌+◌, ◌-◌, ◌*◌, Bool, true, false, cond, not, ◌&&◌, leb, ltb, eqb, List, [], ◌∷◌, ◌++◌, length, codes, Option, Some, None, option_map, option_and_then}
+use Rattle.std.specs.Prelude.{ℕ, ◌+◌, ◌-◌, ◌*◌, leb, ltb, eqb, Bool, true, false, cond, not, ◌&&◌}
+use Rattle.std.specs.Prelude.{List, [], ◌∷◌, ◌++◌, length, codes}
+use Rattle.std.specs.Prelude.{Option, Some, None, option_map, option_and_then}
 use Rattle.std.specs.List.{list_all, slice_split}
 use Rattle.std.specs.Option.{option_or}
 use Rattle.std.specs.Str.{all_ascii_digits}
+use Rattle.certificate.specs.declared.limits.TheConstants.{MOST_UNITS, MOST_ROWS}
 use Rattle.certificate.specs.declared.model.Act.{Act}
 use Rattle.certificate.specs.declared.model.Act.TheVariants.{GiveUp, Goal, Do}
 use Rattle.certificate.specs.declared.model.Row.{Row}
-use Rattle.certificate.specs.Names.{is_name}
-use Rattle.certificate.specs.Content.{most_units, most_rows}
+use Rattle.certificate.specs.Names.{is_lower_name}
 
 infixl 10 ◌>>=◌
 abbrev pub ◌>>=◌ : {A B : Type 0} → Option A → (A → Option B) → Option B
@@ -46,11 +49,13 @@ number_after n [] = n
 number_after n (d ∷ ds) = number_after (n * 10 + (d - 48)) ds
 
 unfoldable pub number_of : List ℕ → Option ℕ
-number_of text = only_if (is_plain text && all_ascii_digits text && leb (number_after 0 text) most_units) (number_after 0 text)
+number_of text =
+    only_if (is_plain text && all_ascii_digits text && leb (number_after 0 text) MOST_UNITS)
+    (number_after 0 text)
 
 -- names, with one blank between two
 abbrev pub are_names : List ℕ → Bool
-are_names text = list_all is_name (parts 32 text)
+are_names text = list_all is_lower_name (parts 32 text)
 
 abbrev pub enclosed : List ℕ → List ℕ
 enclosed names = 40 ∷ names ++ 41 ∷ []
@@ -69,7 +74,8 @@ word_at word act text = option_map (λ rest. (act, rest)) (behind word text)
 unfoldable pub act_at : List ℕ → Option (Act × List ℕ)
 act_at text =
     option_or (word_at (codes "give-up") GiveUp text) (
-    option_or (word_at (codes "goal") Goal text) (option_map (λ list. (Do list.0, list.1)) (list_at text))
+    option_or (word_at (codes "goal") Goal text)
+    (option_map (λ list. (Do list.0, list.1)) (list_at text))
     )
 
 -- the list behind a blank whose `)` ended this part of a text
@@ -118,7 +124,7 @@ unfoldable pub count_of : List ℕ → Option ℕ
 count_of line = do
   text ← behind (codes "states ") line
   n ← number_of text
-  only_if (leb n most_rows) n
+  only_if (leb n MOST_ROWS) n
 
 unfoldable pub row_of : List ℕ → Option Row
 row_of line = do

@@ -1,9 +1,9 @@
-pub mod Names
-pub mod Spelling
+pub mod Answers
 pub mod Content
 pub mod Decoding
-pub mod Reading
-pub mod Refusals
-pub mod Answers
 pub mod Examples
 pub mod Laws
+pub mod Names
+pub mod Reading
+pub mod Refusals
+pub mod Spelling

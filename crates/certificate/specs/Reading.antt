@@ -1,17 +1,21 @@
 -- What a text says by its lines, or the first line that is wrong.
 --     read_of bytes     the certificate that the bytes are the text of, or why they are none
 --
--- Lines count from 1. The line feeds cut the bytes into lines and what stands behind the last line feed. A place wants a line of its form
--- with its line feed; where the bytes end before that, the place has an empty line without line feed.
-use Rattle.std.specs.Prelude.{ℕ, zero, suc, ◌+◌, ltb, Bool, true, cond, ◌&&◌, eqb, List, [], ◌∷◌, length, codes, Option, Some, None, Result, Ok, Err}
+-- Lines count from 1. The line feeds cut the bytes into lines and what stands behind the last line
+-- feed. A place wants a line of its form with its line feed; where the bytes end before that, the
+-- place has an empty line without line feed.
+use Rattle.std.specs.Prelude.{ℕ, zero, suc, ◌+◌, ltb, eqb, Bool, true, cond, ◌&&◌}
+use Rattle.std.specs.Prelude.{List, [], ◌∷◌, length, codes, Option, Some, None, Result, Ok, Err}
 use Rattle.std.specs.Str.{bytes_eq}
 use Rattle.std.specs.Ordering.{is_lt}
 use Rattle.plain_list.specs.Results.{◌>>=◌}
+use Rattle.plain_list.specs.Texts.{rises, compare_texts}
+use Rattle.certificate.specs.declared.limits.TheConstants.{MOST_BYTES}
 use Rattle.certificate.specs.declared.model.Row.{Row}
 use Rattle.certificate.specs.declared.refusal.CertRefusal.{CertRefusal}
-use Rattle.certificate.specs.declared.refusal.CertRefusal.TheVariants.{Syntax, Order, Count, TooLong}
-use Rattle.certificate.specs.Content.{Content, compare_atoms, most_bytes}
-use Rattle.plain_list.specs.Texts.{rises, compare_texts}
+use Rattle.certificate.specs.declared.refusal.CertRefusal.TheVariants.{Syntax, Order, Count}
+use Rattle.certificate.specs.declared.refusal.CertRefusal.TheVariants.{TooLong}
+use Rattle.certificate.specs.Content.{Content, content_of, compare_atoms}
 use Rattle.certificate.specs.Decoding.{parts, only_if, penalty_of, interval_of, count_of, row_of}
 
 -- what line k says, or that it is wrong
@@ -26,7 +30,8 @@ line_at k (line ∷ []) = Err (Syntax k)
 line_at k (line ∷ next ∷ more) = Ok (line, next ∷ more)
 
 -- what line k says in a place of this form
-unfoldable pub said_at : {A : Type 0} → (List ℕ → Option A) → ℕ → List (List ℕ) → Result (A × List (List ℕ)) CertRefusal
+unfoldable pub said_at : {A : Type 0} → (List ℕ → Option A) → ℕ → List (List ℕ)
+    → Result (A × List (List ℕ)) CertRefusal
 said_at form k lines = do
   line ← line_at k lines
   x ← or_syntax k (form line.0)
@@ -49,7 +54,8 @@ row_at before k line =
     )
 
 -- the lines from k on in the places of n rows
-unfoldable pub rows_at : ℕ → Option (List (List ℕ)) → ℕ → List (List ℕ) → Result (List Row × List (List ℕ)) CertRefusal
+unfoldable pub rows_at : ℕ → Option (List (List ℕ)) → ℕ → List (List ℕ)
+    → Result (List Row × List (List ℕ)) CertRefusal
 rows_at zero before k lines = Ok ([], lines)
 rows_at (suc n) before k lines = do
   line ← line_at k lines
@@ -67,7 +73,9 @@ nothing_at k (line ∷ next ∷ more) = Err (Syntax k)
 unfoldable pub end_at : ℕ → List (List ℕ) → Result (Unit {0}) CertRefusal
 end_at k lines = do
   line ← line_at k lines
-  cond (bytes_eq line.0 (codes "end")) (nothing_at (k + 1) line.1) (or_syntax k (row_of line.0) >>= λ r. Err (Count k))
+  cond (bytes_eq line.0 (codes "end"))
+      (nothing_at (k + 1) line.1)
+      (or_syntax k (row_of line.0) >>= λ r. Err (Count k))
 
 unfoldable pub read_lines : List (List ℕ) → Result Content CertRefusal
 read_lines lines = do
@@ -77,7 +85,7 @@ read_lines lines = do
   count ← said_at count_of 4 interval.1
   rows ← rows_at count.0 None 5 count.1
   ended ← end_at (5 + count.0) rows.1
-  Ok (record { version = 1; penalty = penalty.0; lower = interval.0.0; upper = interval.0.1; rows = rows.0 })
+  Ok (content_of penalty.0 interval.0.0 interval.0.1 rows.0)
 
 unfoldable pub read_of : List ℕ → Result Content CertRefusal
-read_of bytes = cond (ltb most_bytes (length bytes)) (Err TooLong) (read_lines (parts 10 bytes))
+read_of bytes = cond (ltb MOST_BYTES (length bytes)) (Err TooLong) (read_lines (parts 10 bytes))

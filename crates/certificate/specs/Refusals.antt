@@ -3,7 +3,8 @@
 --     line_of e      the line that is wrong, 0 where none is
 use Rattle.std.specs.Prelude.{ℕ, Option, Some, None}
 use Rattle.certificate.specs.declared.refusal.CertRefusal.{CertRefusal}
-use Rattle.certificate.specs.declared.refusal.CertRefusal.TheVariants.{Syntax, Order, Count, TooLong, Memory}
+use Rattle.certificate.specs.declared.refusal.CertRefusal.TheVariants.{Syntax, Order, Count}
+use Rattle.certificate.specs.declared.refusal.CertRefusal.TheVariants.{TooLong, Memory}
 
 abbrev pub number_of : CertRefusal → Option ℕ
 number_of (Syntax line) = Some 30

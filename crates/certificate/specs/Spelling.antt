@@ -1,4 +1,4 @@
--- How the lines of a certificate are spelled. A number stands in decimal without leading zeros (`decimal` of std).
+-- How the lines of a certificate are spelled. Numbers are in decimal without leading zeros.
 --     spaced front rest      two parts with one blank between them
 --     act_text a             `give-up`, `goal`, or the action's name
 --     atoms_text atoms       `:`, and each atom behind a blank
@@ -30,4 +30,5 @@ abbrev pub states_line : ℕ → List ℕ
 states_line n = spaced (codes "states") (decimal n)
 
 abbrev pub row_line : Row → List ℕ
-row_line r = spaced (decimal r.lower) (spaced (decimal r.upper) (spaced (act_text r.act) (atoms_text r.atoms)))
+row_line r =
+    spaced (decimal r.lower) (spaced (decimal r.upper) (spaced (act_text r.act) (atoms_text r.atoms)))

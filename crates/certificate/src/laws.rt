@@ -1,17 +1,20 @@
 //! Laws of the definitions: what ties the reading of a text to its spelling.
 
-ghost use Rattle.certificate.specs.Laws.{FormsHeader, FormsPenalty, FormsInterval, FormsStates, FormsRow, ReadsTexts, RefusesLong, TextsDiffer, HasOneText};
+ghost use Rattle.certificate.specs.Laws.{HeaderIsSpelled, PenaltyIsSpelled, IntervalIsSpelled};
+ghost use Rattle.certificate.specs.Laws.{CountIsSpelled, RowIsSpelled};
+ghost use Rattle.certificate.specs.Laws.{TextsAreRead, LongTextsAreRefused};
+ghost use Rattle.certificate.specs.Laws.{TextsDiffer, EachHasOneText};
 
-/// A line is of the form of its place exactly where it is spelled so, and a certificate is read exactly where the bytes are its text. Each
-/// certificate has one text, and each text one certificate.
+/// A line is of the form of its place exactly where it is spelled so, and a certificate is read
+/// exactly where the bytes are its text. Each certificate has one text, each text one certificate.
 pub fn text_laws()
-    ensures header { FormsHeader }
-    ensures penalty { FormsPenalty }
-    ensures interval { FormsInterval }
-    ensures states { FormsStates }
-    ensures row { FormsRow }
-    ensures reads { ReadsTexts }
-    ensures refuses_long { RefusesLong }
+    ensures header { HeaderIsSpelled }
+    ensures penalty { PenaltyIsSpelled }
+    ensures interval { IntervalIsSpelled }
+    ensures states { CountIsSpelled }
+    ensures row { RowIsSpelled }
+    ensures reads { TextsAreRead }
+    ensures refuses_long { LongTextsAreRefused }
     ensures texts_differ { TextsDiffer }
-    ensures one_text { HasOneText }
+    ensures one_text { EachHasOneText }
 {}

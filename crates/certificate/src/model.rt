@@ -6,7 +6,7 @@ use plain_list::{List, Text};
 use std::marker::Model;
 
 /// What a row's policy does in its state.
-#[derive(Debug, Drop, PartialEq, Clone)]
+#[derive(Clone, Debug, Drop, PartialEq, Eq)]
 pub enum Act {
     /// Pays the penalty and stops.
     GiveUp,
@@ -17,7 +17,7 @@ pub enum Act {
 }
 
 /// A state by its atoms, with bounds on its value in micro-units and what to do in it.
-#[derive(Debug, Drop, PartialEq, Clone)]
+#[derive(Clone, Debug, Drop, PartialEq, Eq)]
 pub struct Row {
     pub lower: u64,
     pub upper: u64,
@@ -26,11 +26,12 @@ pub struct Row {
     pub atoms: List<Text>,
 }
 
-/// A certificate of version 1. Contracts see what it says, and that this has the form, the range and the order of version 1: an
-/// `IsCertificate`.
+/// A certificate of version 1. Contracts see what it says, and that this has the form, the range
+/// and the order of version 1: an `IsCertificate`.
 ///
-/// Numbers are micro-units of at most 10^14, and the penalty is at least 1. There are at most 1,000,000 rows. Acts and atoms are lists of
-/// lower-case names, as `(at l1)`; the atoms of a row rise strictly, bytewise, and so do the rows by their lists of atoms.
+/// Numbers are micro-units of at most `MOST_UNITS`, and the penalty is at least 1. There are at
+/// most `MOST_ROWS` rows. Acts and atoms are lists of lower-case names, as `(at l1)`; the atoms of a
+/// row rise strictly, bytewise, and so do the rows by their lists of atoms.
 #[derive(Debug, Drop)]
 pub struct Certificate {
     version: u32,
@@ -45,19 +46,31 @@ impl Model for Certificate {
 
     ghost Value = { Content };
 
-    ghost view = { λ c. record { version = c.version; penalty = c.penalty; lower = c.lower; upper = c.upper; rows = c.rows } };
+    ghost view = { λ c. record {
+      version = c.version;
+      penalty = c.penalty;
+      lower = c.lower;
+      upper = c.upper;
+      rows = c.rows;
+    } };
 
-    ghost invariant = { λ c. IsCertificate (record { version = c.version; penalty = c.penalty; lower = c.lower; upper = c.upper; rows = c.rows }) };
+    ghost invariant = { λ c. IsCertificate (record {
+      version = c.version;
+      penalty = c.penalty;
+      lower = c.lower;
+      upper = c.upper;
+      rows = c.rows;
+    }) };
 }
 
 impl Certificate {
     ghost use Rattle.std.specs.Prelude.{◌≡◌};
-    ghost use Rattle.certificate.specs.Content.{IsCertificate};
+    ghost use Rattle.certificate.specs.Content.{IsCertificate, content_of};
 
     /// The certificate of version 1 that says this.
     pub fn new(penalty: u64, lower: u64, upper: u64, rows: List<Row>) -> Self
-        requires { IsCertificate (record { version = 1; penalty = penalty; lower = lower; upper = upper; rows = rows }) }
-        ensures { result ≡ record { version = 1; penalty = penalty; lower = lower; upper = upper; rows = rows } }
+        requires { IsCertificate (content_of penalty lower upper rows) }
+        ensures { result ≡ content_of penalty lower upper rows }
     {
         Certificate {
             version: 1,

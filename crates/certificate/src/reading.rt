@@ -1,10 +1,10 @@
 //! Reading a certificate line by line.
 
-ghost use Rattle.std.specs.Prelude.{◌≡◌, ◌+◌, ◌≤◌, IfOk, length};
-ghost use Rattle.certificate.specs.Content.{Content, IsTextOf, most_rows, most_bytes};
+ghost use Rattle.std.specs.Prelude.{◌≡◌, ◌+◌, ◌≤◌, Ok, IfOk, length};
+ghost use Rattle.certificate.specs.Content.{Content, IsTextOf};
 ghost use Rattle.certificate.specs.Decoding.{parts};
 ghost use Rattle.certificate.specs.Reading.{end_at, read_lines, read_of};
-ghost use Rattle.certificate.specs.Answers.{Gives};
+ghost use Rattle.certificate.specs.Answers.{GivesCertificate};
 
 mod fields;
 mod head;
@@ -12,22 +12,18 @@ mod lines;
 mod order;
 mod rows;
 
-use crate::model::Certificate;
-use crate::refusal::CertRefusal;
-use head::{count_at, header_at, interval_at, penalty_at};
-use lines::{line_at, nothing_at};
+use crate::reading::head::{count_of, header_of, interval_of, penalty_of};
+use crate::reading::lines::{line_at, nothing_at};
+use crate::reading::rows::{row_of, rows_at};
+use crate::{CertRefusal, Certificate, MOST_BYTES, MOST_ROWS};
 use plain_list::List;
-use rows::{row_of, rows_at};
 use std::alloc::Global;
-
-/// The greatest length of a certificate's text, in bytes.
-pub const MOST_BYTES: usize = 67_108_864;
 
 /// Checks that the line with this number is `end`, and that nothing stands behind it.
 #[tactic(auto, unfolding(crate::specs::Reading::end_at))]
 fn end_at(alloc: Global, line: u32, bytes: &[u8]) -> Result<(), CertRefusal>
-    requires { line ≤ 5 + most_rows }
-    ensures { Gives (λ nothing. nothing) result (end_at line (parts 10 bytes.now)) }
+    requires { line ≤ 5 + MOST_ROWS }
+    ensures { GivesCertificate (λ nothing. nothing) result (end_at line (parts 10 bytes.now)) }
 {
     let (text, rest) = line_at(line, bytes)?;
     if text == b"end".as_slice() {
@@ -38,22 +34,27 @@ fn end_at(alloc: Global, line: u32, bytes: &[u8]) -> Result<(), CertRefusal>
 }
 
 /// The certificate that these lines are.
-#[tactic(auto, unfolding(crate::specs::Reading::read_lines))]
+#[tactic(auto, unfolding(crate::specs::Reading::read_lines, crate::specs::Reading::said_at))]
 fn read_lines(alloc: Global, bytes: &[u8]) -> Result<Certificate, CertRefusal>
-    ensures { Gives (λ found. found) result (read_lines (parts 10 bytes.now)) }
+    ensures { GivesCertificate (λ found. found) result (read_lines (parts 10 bytes.now)) }
 {
-    let rest = header_at(1, bytes)?;
-    let (penalty, rest) = penalty_at(2, rest)?;
-    let ((lower, upper), rest) = interval_at(3, rest)?;
-    let (count, rest) = count_at(4, rest)?;
+    let (text, rest) = line_at(1, bytes)?;
+    header_of(text).ok_or(CertRefusal::Syntax { line: 1 })?;
+    let (text, rest) = line_at(2, rest)?;
+    let penalty = penalty_of(text).ok_or(CertRefusal::Syntax { line: 2 })?;
+    let (text, rest) = line_at(3, rest)?;
+    let (lower, upper) = interval_of(text).ok_or(CertRefusal::Syntax { line: 3 })?;
+    let (text, rest) = line_at(4, rest)?;
+    let count = count_of(text).ok_or(CertRefusal::Syntax { line: 4 })?;
     let (rows, rest) = rows_at(alloc, count, rest)?;
     end_at(alloc, 5 + count, rest)?;
     Ok(Certificate::new(penalty, lower, upper, List::from_vec(rows)))
 }
 
+/// The certificate that bytes within the greatest length are.
 #[tactic(auto, unfolding(crate::specs::Reading::read_of))]
 fn read_bytes(alloc: Global, bytes: &[u8]) -> Result<Certificate, CertRefusal>
-    ensures { Gives (λ found. found) result (read_of bytes.now) }
+    ensures { GivesCertificate (λ found. found) result (read_of bytes.now) }
 {
     if bytes.len() > MOST_BYTES {
         return Err(CertRefusal::TooLong);
@@ -63,16 +64,18 @@ fn read_bytes(alloc: Global, bytes: &[u8]) -> Result<Certificate, CertRefusal>
 
 /// The certificate that the bytes are the text of.
 ///
-/// Bytes above the greatest length are `TooLong`; else the first line that is wrong decides. Any answer yields to `Memory`.
+/// Bytes above the greatest length are `TooLong`; else the first line that is wrong decides. Any
+/// answer yields to `Memory`.
 pub fn read(alloc: Global, bytes: &[u8]) -> Result<Certificate, CertRefusal>
     // What is read is what the bytes are the text of.
     ensures found { IfOk result (IsTextOf bytes.now) }
 
     // What they are the text of is read, up to the greatest length.
-    ensures only { (c : Content) → length bytes.now ≤ most_bytes → IsTextOf bytes.now c → Gives (λ found. found) result (Ok c) }
+    ensures only { (c : Content) → length bytes.now ≤ MOST_BYTES → IsTextOf bytes.now c
+        → GivesCertificate (λ found. found) result (Ok c) }
 
     // Which refusal it is.
-    ensures exact { Gives (λ found. found) result (read_of bytes.now) }
+    ensures exact { GivesCertificate (λ found. found) result (read_of bytes.now) }
 {
     read_bytes(alloc, bytes)
 }

@@ -20,7 +20,7 @@ pub enum CertRefusal {
     /// `end` stands before all rows, or a row stands in its place.
     #[error("Count")]
     Count { line: u32 },
-    /// More than 67,108,864 bytes.
+    /// More than `MOST_BYTES` bytes.
     #[error("TooLong")]
     TooLong,
     /// Want of memory.
@@ -74,7 +74,7 @@ impl<T: Drop> From<AllocFailed<T>> for CertRefusal {
 /// Why a certificate was not written.
 #[derive(Clone, Copy, Debug, PartialEq, Eq, Error)]
 pub enum WriteRefusal {
-    /// The text is above 67,108,864 bytes.
+    /// The text is above `MOST_BYTES` bytes.
     #[error("TooLong")]
     TooLong,
     /// Want of memory.

@@ -6,21 +6,21 @@ ghost use Rattle.certificate.specs.Spelling.{spaced, act_text, interval_line, ro
 ghost use Rattle.certificate.specs.Content.{text_of, head_lines, ended};
 ghost use Rattle.certificate.specs.Answers.{Writes};
 
-use crate::model::{Act, Certificate, Row};
-use crate::reading::MOST_BYTES;
-use crate::refusal::WriteRefusal;
+use crate::{Act, Certificate, MOST_BYTES, Row, WriteRefusal};
 use itoa::Buffer;
 use plain_list::{Bytes, Text};
 use std::alloc::{AllocError, Global};
 
-fn put_number(out: &mut Vec<u8>, number: u64) -> Result<(), AllocError>
+/// Appends a number in decimal.
+fn push_decimal(out: &mut Vec<u8>, number: u64) -> Result<(), AllocError>
     ensures { OnOk result (out.new.items ≡ out.old.items ++ decimal number) }
 {
     let mut buffer = Buffer::new();
     out.extend_from_slice(buffer.format(number).as_bytes())
 }
 
-fn put_act(out: &mut Vec<u8>, act: &Act) -> Result<(), AllocError>
+/// Appends the text of an act.
+fn push_act(out: &mut Vec<u8>, act: &Act) -> Result<(), AllocError>
     ensures { OnOk result (out.new.items ≡ out.old.items ++ act_text act.now) }
 {
     match act {
@@ -30,8 +30,10 @@ fn put_act(out: &mut Vec<u8>, act: &Act) -> Result<(), AllocError>
     }
 }
 
-fn put_atoms(out: &mut Vec<u8>, atoms: &[Text]) -> Result<(), AllocError>
-    ensures { OnOk result (out.new.items ≡ out.old.items ++ flat_map (λ atom. 32 ∷ atom) atoms.now) }
+/// Appends each atom behind a blank.
+fn push_atoms(out: &mut Vec<u8>, atoms: &[Text]) -> Result<(), AllocError>
+    ensures { OnOk result (out.new.items
+        ≡ out.old.items ++ flat_map (λ atom. 32 ∷ atom) atoms.now) }
 {
     for atom in atoms {
         out.push(b' ')?;
@@ -40,63 +42,67 @@ fn put_atoms(out: &mut Vec<u8>, atoms: &[Text]) -> Result<(), AllocError>
     Ok(())
 }
 
-/// Puts a row's line with its line feed.
-fn put_row(out: &mut Vec<u8>, row: &Row) -> Result<(), AllocError>
+/// Appends a row's line with its line feed.
+fn push_row(out: &mut Vec<u8>, row: &Row) -> Result<(), AllocError>
     ensures { OnOk result (out.new.items ≡ out.old.items ++ ended (row_line row.now)) }
 {
-    put_number(out, row.lower)?;
+    push_decimal(out, row.lower)?;
     out.push(b' ')?;
-    put_number(out, row.upper)?;
+    push_decimal(out, row.upper)?;
     out.push(b' ')?;
-    put_act(out, &row.act)?;
+    push_act(out, &row.act)?;
     out.extend_from_slice(b" :")?;
-    put_atoms(out, row.atoms.as_slice())?;
+    push_atoms(out, row.atoms.as_slice())?;
     out.push(b'\n')?;
     Ok(())
 }
 
-/// Puts the line of a word and a number, with its line feed.
-fn put_named(out: &mut Vec<u8>, name: &[u8], number: u64) -> Result<(), AllocError>
-    ensures { OnOk result (out.new.items ≡ out.old.items ++ ended (spaced name.now (decimal number))) }
+/// Appends the line of a word and a number, with its line feed.
+fn push_named(out: &mut Vec<u8>, name: &[u8], number: u64) -> Result<(), AllocError>
+    ensures { OnOk result (out.new.items
+        ≡ out.old.items ++ ended (spaced name.now (decimal number))) }
 {
     out.extend_from_slice(name)?;
     out.push(b' ')?;
-    put_number(out, number)?;
+    push_decimal(out, number)?;
     out.push(b'\n')?;
     Ok(())
 }
 
-/// Puts the line of an interval, with its line feed.
-fn put_interval(out: &mut Vec<u8>, lower: u64, upper: u64) -> Result<(), AllocError>
+/// Appends the line of an interval, with its line feed.
+fn push_interval(out: &mut Vec<u8>, lower: u64, upper: u64) -> Result<(), AllocError>
     ensures { OnOk result (out.new.items ≡ out.old.items ++ ended (interval_line lower upper)) }
 {
     out.extend_from_slice(b"interval ")?;
-    put_number(out, lower)?;
+    push_decimal(out, lower)?;
     out.push(b' ')?;
-    put_number(out, upper)?;
+    push_decimal(out, upper)?;
     out.push(b'\n')?;
     Ok(())
 }
 
-/// Puts the four lines before the rows.
-fn put_head(out: &mut Vec<u8>, certificate: &Certificate) -> Result<(), AllocError>
-    ensures { OnOk result (out.new.items ≡ out.old.items ++ flat_map ended (head_lines certificate.now)) }
+/// Appends the four lines before the rows.
+fn push_head(out: &mut Vec<u8>, certificate: &Certificate) -> Result<(), AllocError>
+    ensures { OnOk result (out.new.items
+        ≡ out.old.items ++ flat_map ended (head_lines certificate.now)) }
 {
     out.extend_from_slice(b"cert 1\n")?;
-    put_named(out, b"penalty", certificate.penalty())?;
-    put_interval(out, certificate.lower(), certificate.upper())?;
-    put_named(out, b"states", certificate.rows().len() as u64)?;
+    push_named(out, b"penalty", certificate.penalty())?;
+    push_interval(out, certificate.lower(), certificate.upper())?;
+    push_named(out, b"states", certificate.rows().len() as u64)?;
     Ok(())
 }
 
-/// The text of a certificate, refused as `TooLong` if it is above 67,108,864 bytes. Either answer yields to `Memory`.
+/// The text of a certificate, refused as `TooLong` if it is above the greatest length.
+///
+/// Either answer yields to `Memory`.
 pub fn write(alloc: Global, certificate: &Certificate) -> Result<Bytes, WriteRefusal>
     ensures exact { Writes (text_of certificate.now) result }
 {
     let mut out = Vec::new(alloc);
-    put_head(&mut out, certificate)?;
+    push_head(&mut out, certificate)?;
     for row in certificate.rows() {
-        put_row(&mut out, row)?;
+        push_row(&mut out, row)?;
         if out.len() > MOST_BYTES {
             return Err(WriteRefusal::TooLong);
         }

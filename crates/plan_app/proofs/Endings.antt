@@ -5,8 +5,9 @@ use Rattle.shelf_io.specs.Causes.{one_more}
 use Rattle.shelf_io.specs.Shelf.{Told, Untold, Missing, Holds, MayHold}
 use Rattle.shelf_io.specs.declared.shelf_fault.ShelfFault.{ShelfFault}
 use Rattle.shelf_io.specs.declared.shelf_fault.ShelfFault.TheVariants as fault
-use Rattle.certificate.specs.Content.{Content, most_bytes}
-use Rattle.certificate.specs.Laws.{ReadsTexts}
+use Rattle.certificate.specs.declared.limits.TheConstants.{MOST_BYTES}
+use Rattle.certificate.specs.Content.{Content}
+use Rattle.certificate.specs.Laws.{TextsAreRead}
 use Rattle.certificate.specs.Reading.{read_of}
 use Rattle.certificate.specs.Answers.{Refuses}
 use Rattle.certificate.specs.declared.refusal.CertRefusal.{CertRefusal}
@@ -50,11 +51,11 @@ not_both : (bytes : List ℕ) (c : Content) (e : CertRefusal) → read_of bytes 
 not_both bytes c e gives read = cc (gives, read)
 
 -- bytes of which this is decoded are read so
-pub decoded_read : ReadsTexts → (bytes : List ℕ) (c : Content) → IsDecoded bytes c → read_of bytes ≡ Ok c
+pub decoded_read : TextsAreRead → (bytes : List ℕ) (c : Content) → IsDecoded bytes c → read_of bytes ≡ Ok c
 decoded_read law bytes c is = (law bytes c is.within).1 is.text
 
 -- the certificate that was read
-pub certificate_held : ReadsTexts → (told : Told) (bytes : List ℕ) (c : Content) → MayHold told bytes → length bytes ≤ most_bytes → read_of bytes ≡ Ok c
+pub certificate_held : TextsAreRead → (told : Told) (bytes : List ℕ) (c : Content) → MayHold told bytes → length bytes ≤ MOST_BYTES → read_of bytes ≡ Ok c
     → MayHoldCertificate told c
 certificate_held law told bytes c holds within read = record {
   f = bytes;
@@ -64,7 +65,7 @@ certificate_held law told bytes c holds within read = record {
   read = read;
 }
 
-module _ {S : Type 0} (held : S → List ℕ → Told) (reads : S → ℕ) (old new : S) (q : Asked) (law : ReadsTexts) (thin : MayHoldThin (held old q.domain))
+module _ {S : Type 0} (held : S → List ℕ → Told) (reads : S → ℕ) (old new : S) (q : Asked) (law : TextsAreRead) (thin : MayHoldThin (held old q.domain))
     (bytes : List ℕ) (holds : MayHold (held old q.certificate) bytes) where
   -- bytes that are refused, but for want of memory, are no certificate's text
   pub rejected_with : (e : CertRefusal) (code row : ℕ) → read_of bytes ≡ Err e → code ≡ code_of (Err e) → row ≡ row_of (Err e)

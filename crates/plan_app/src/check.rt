@@ -21,7 +21,7 @@ use crate::checker::is_balanced;
 use crate::report::check_report;
 use crate::request::{Request, request_of};
 use crate::stop::Stop;
-use certificate::{Certificate, text_laws};
+use certificate::{Certificate, MOST_BYTES, text_laws};
 use plain_list::Bytes;
 use ppddl_lex::MOST_TEXT;
 use ppddl_model::Task;
@@ -33,9 +33,6 @@ const TEXT_LENGTH: u8 = 28;
 
 /// The code of a certificate's text that is too long.
 const CERTIFICATE_LENGTH: u8 = 33;
-
-/// The greatest length of a certificate's text, in bytes.
-const MOST_CERTIFICATE: u64 = 67_108_864;
 
 /// The report that these words ask for, or why there is none.
 pub(crate) fn report_of<S: Shelf>(
@@ -99,7 +96,7 @@ fn read_certificate<S: Shelf>(
     ensures shelf { OnlyRead S.held S.read_faults S.write_faults shelf.old shelf.new }
 {
     text_laws();
-    match shelf.read(alloc, request.certificate(), MOST_CERTIFICATE) {
+    match shelf.read(alloc, request.certificate(), MOST_BYTES as u64) {
         Ok(bytes) => Ok(certificate::read(alloc, bytes.as_slice())?),
         Err(ShelfFault::Failed) => Err(Stop::ReadFailed),
         Err(ShelfFault::TooLong) => Err(Stop::NotAccepted {

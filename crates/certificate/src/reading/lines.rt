@@ -3,20 +3,21 @@
 ghost use Rattle.std.specs.Prelude.{◌≡◌};
 ghost use Rattle.certificate.specs.Decoding.{parts};
 ghost use Rattle.certificate.specs.Reading.{line_at, nothing_at};
-ghost use Rattle.certificate.specs.Answers.{Gives};
+ghost use Rattle.certificate.specs.Answers.{GivesCertificate};
 
-use super::fields::cut;
-use crate::refusal::CertRefusal;
+use crate::CertRefusal;
+use crate::reading::fields::cut;
 
 /// The line with this number and what stands behind its line feed.
-pub fn line_at(line: u32, bytes: &[u8]) -> Result<(&[u8], &[u8]), CertRefusal>
-    ensures { Gives (λ found. (found.0.now, parts 10 found.1.now)) result (line_at line (parts 10 bytes.now)) }
+pub(super) fn line_at(line: u32, bytes: &[u8]) -> Result<(&[u8], &[u8]), CertRefusal>
+    ensures { GivesCertificate (λ found. (found.0.now, parts 10 found.1.now)) result
+        (line_at line (parts 10 bytes.now)) }
 {
     cut(b'\n', bytes).ok_or(CertRefusal::Syntax { line })
 }
 
 /// Checks that behind `end` stands nothing.
-pub fn nothing_at(line: u32, bytes: &[u8]) -> Result<(), CertRefusal>
+pub(super) fn nothing_at(line: u32, bytes: &[u8]) -> Result<(), CertRefusal>
     ensures { result ≡ nothing_at line (parts 10 bytes.now) }
 {
     if !bytes.is_empty() {

@@ -1,26 +1,26 @@
 //! The lines of rows.
 
-ghost use Rattle.std.specs.Prelude.{◌≡◌, ◌≤◌, option_map};
-ghost use Rattle.certificate.specs.Content.{most_rows};
+ghost use Rattle.std.specs.Prelude.{◌≡◌, ◌≤◌, None, option_map};
 ghost use Rattle.certificate.specs.Decoding.{parts, act_at, atoms_of, row_of};
 ghost use Rattle.certificate.specs.Reading.{or_syntax, row_at, rows_at};
-ghost use Rattle.certificate.specs.Answers.{Gives};
+ghost use Rattle.certificate.specs.Answers.{GivesCertificate};
 
-use super::fields::{atom_at, behind, field_at, list_at};
-use super::lines::line_at;
-use super::order::{follows, rises};
-use crate::model::{Act, Row};
-use crate::refusal::CertRefusal;
-use plain_list::{List, Text};
+use crate::reading::fields::{atom_at, behind, field_at, list_at};
+use crate::reading::lines::line_at;
+use crate::reading::order::{follows, rises};
+use crate::{Act, CertRefusal, List, MOST_ROWS, Row, Text};
 use std::alloc::Global;
 
 /// The length of the shortest line of a row with its line feed, as of `0 0 (a) :`.
 const SHORTEST_ROW: usize = 10;
 
-/// The act that a text begins with, and what stands behind it. A text that begins with none is refused at this line.
+/// The act that a text begins with, and what stands behind it.
+///
+/// A text that begins with none is refused at this line.
 #[tactic(auto, unfolding(crate::specs::Decoding::act_at))]
 fn act_at(alloc: Global, line: u32, text: &[u8]) -> Result<(Act, &[u8]), CertRefusal>
-    ensures { Gives (λ found. (found.0, found.1.now)) result (or_syntax line (act_at text.now)) }
+    ensures { GivesCertificate (λ found. (found.0, found.1.now)) result
+        (or_syntax line (act_at text.now)) }
 {
     if let Some(rest) = behind(b"give-up", text) {
         return Ok((Act::GiveUp, rest));
@@ -34,7 +34,8 @@ fn act_at(alloc: Global, line: u32, text: &[u8]) -> Result<(Act, &[u8]), CertRef
 
 /// The lists of names that a text consists of, each behind a blank.
 fn atoms_of(alloc: Global, line: u32, text: &[u8]) -> Result<List<Text>, CertRefusal>
-    ensures { Gives (λ atoms. atoms) result (or_syntax line (atoms_of (parts 41 text.now))) }
+    ensures { GivesCertificate (λ atoms. atoms) result
+        (or_syntax line (atoms_of (parts 41 text.now))) }
 {
     let mut atoms = Vec::new(alloc);
     let mut rest = text;
@@ -48,8 +49,8 @@ fn atoms_of(alloc: Global, line: u32, text: &[u8]) -> Result<List<Text>, CertRef
 
 /// The row that a line says, which has this number.
 #[tactic(auto, unfolding(crate::specs::Decoding::row_of))]
-pub fn row_of(alloc: Global, line: u32, text: &[u8]) -> Result<Row, CertRefusal>
-    ensures { Gives (λ row. row) result (or_syntax line (row_of text.now)) }
+pub(super) fn row_of(alloc: Global, line: u32, text: &[u8]) -> Result<Row, CertRefusal>
+    ensures { GivesCertificate (λ row. row) result (or_syntax line (row_of text.now)) }
 {
     let (lower, rest) = field_at(text).ok_or(CertRefusal::Syntax { line })?;
     let (upper, rest) = field_at(rest).ok_or(CertRefusal::Syntax { line })?;
@@ -67,7 +68,8 @@ pub fn row_of(alloc: Global, line: u32, text: &[u8]) -> Result<Row, CertRefusal>
 /// The row of a line with this number, behind the row before, if there is one.
 #[tactic(auto, unfolding(crate::specs::Reading::row_at))]
 fn row_at(alloc: Global, before: Option<&Row>, line: u32, text: &[u8]) -> Result<Row, CertRefusal>
-    ensures { Gives (λ row. row) result (row_at (option_map (λ row. row.now.atoms) before.entry) line text.now) }
+    ensures { GivesCertificate (λ row. row) result
+        (row_at (option_map (λ row. row.now.atoms) before.entry) line text.now) }
 {
     if text == b"end".as_slice() {
         return Err(CertRefusal::Count { line });
@@ -80,10 +82,16 @@ fn row_at(alloc: Global, before: Option<&Row>, line: u32, text: &[u8]) -> Result
 }
 
 /// The rows in the places of this many lines, and what stands behind them.
-pub fn rows_at(alloc: Global, count: u32, bytes: &[u8]) -> Result<(Vec<Row>, &[u8]), CertRefusal>
-    requires { count ≤ most_rows }
-    ensures { Gives (λ found. (found.0.items, parts 10 found.1.now)) result (rows_at count None 5 (parts 10 bytes.now)) }
+pub(super) fn rows_at(
+    alloc: Global,
+    count: u32,
+    bytes: &[u8],
+) -> Result<(Vec<Row>, &[u8]), CertRefusal>
+    requires { count ≤ MOST_ROWS }
+    ensures { GivesCertificate (λ found. (found.0.items, parts 10 found.1.now)) result
+        (rows_at count None 5 (parts 10 bytes.now)) }
 {
+    // A short text that says many rows takes no more memory than it has bytes for.
     let most = bytes.len() / SHORTEST_ROW;
     let mut rows = Vec::with_capacity(alloc, most.min(count as usize))?;
     let mut rest = bytes;

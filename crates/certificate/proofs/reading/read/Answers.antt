@@ -1,5 +1,5 @@
 use Rattle.std.proofs.Common.{subst}
-use Rattle.certificate.specs.Answers.{Gives}
+use Rattle.certificate.specs.Answers.{GivesCertificate}
 use Rattle.certificate.proofs.Again.{is_found, text_is_read}
 use Rattle.certificate.proofs.reading.read.Goals as goal
 
@@ -7,4 +7,4 @@ pub returns-clause-found : goal.returns-clause-found
 returns-clause-found c = is_found c.args.bytes.now c.read_bytes.result c.read_bytes.ensures
 
 pub returns-clause-only : goal.returns-clause-only
-returns-clause-only c = λ d short is. subst (Gives (λ found. found) c.read_bytes.result) (text_is_read c.args.bytes.now d short is) c.read_bytes.ensures
+returns-clause-only c = λ d short is. subst (GivesCertificate (λ found. found) c.read_bytes.result) (text_is_read c.args.bytes.now d short is) c.read_bytes.ensures

@@ -11,16 +11,16 @@ pub returns-then-len-gt-MOST_BYTES : goal.returns-then-len-gt-MOST_BYTES
 returns-then-len-gt-MOST_BYTES c =
     let certificate = c.args.certificate.now in
     let head : List ℕ = flat_map ended (head_lines certificate) in
-    let so_far : c.put_row.new.out.items ≡ head ++ flat_map row_text (take (c.loop-row.row-index + 1) c.rows-row-items.result.now) =
-    c.in_ok-put_row.ensures ∙ ap (λ (x : List ℕ). x ++ row_text c.row-item.result) c.loop-row.invariant ∙ row_more head c.rows-row-items.result.now c.loop-row.row-index c.row-item.result c.loop-row-test.true c.row-item.is in
-    let shown : c.put_row.new.out.items ≡ head ++ flat_map row_text (take (c.loop-row.row-index + 1) certificate.rows) =
+    let so_far : c.push_row.new.out.items ≡ head ++ flat_map row_text (take (c.loop-row.row-index + 1) c.rows-row-items.result.now) =
+    c.in_ok-push_row.ensures ∙ ap (λ (x : List ℕ). x ++ row_text c.row-item.result) c.loop-row.invariant ∙ row_more head c.rows-row-items.result.now c.loop-row.row-index c.row-item.result c.loop-row-test.true c.row-item.is in
+    let shown : c.push_row.new.out.items ≡ head ++ flat_map row_text (take (c.loop-row.row-index + 1) certificate.rows) =
     so_far ∙ ap (λ (rows : List Row). head ++ flat_map row_text (take (c.loop-row.row-index + 1) rows)) c.rows-row-items.ensures.value in
     record { exact = omega (arith, ap length shown, text_longer certificate (c.loop-row.row-index + 1)) }
 
 pub loop-row-preserved : goal.loop-row-preserved
 loop-row-preserved c =
     let head : List ℕ = flat_map ended (head_lines c.args.certificate.now) in
-    c.in_ok-put_row.ensures ∙ ap (λ (x : List ℕ). x ++ row_text c.row-item.result) c.loop-row.invariant ∙ row_more head c.rows-row-items.result.now c.loop-row.row-index c.row-item.result c.loop-row-test.true c.row-item.is
+    c.in_ok-push_row.ensures ∙ ap (λ (x : List ℕ). x ++ row_text c.row-item.result) c.loop-row.invariant ∙ row_more head c.rows-row-items.result.now c.loop-row.row-index c.row-item.result c.loop-row-test.true c.row-item.is
 
 pub returns-then-len-gt-MOST_BYTES-2 : goal.returns-then-len-gt-MOST_BYTES-2
 returns-then-len-gt-MOST_BYTES-2 c =

@@ -1,11 +1,11 @@
 use Rattle.std.proofs.Common.{eqb, rules, tests}
 use Rattle.std.proofs.lemmas.Iterator.Search.{all_from_yields_List}
 use Rattle.std.proofs.lemmas.Iterator.Splits.{YieldsList-from_slice_split}
-use Rattle.certificate.specs.Names.{is_name}
+use Rattle.certificate.specs.Names.{is_lower_name}
 use Rattle.certificate.proofs.reading.fields.are_names.Goals as goal
 
 pub returns : goal.returns
 returns c =
-    all_from_yields_List is_name _ _ _ c.all.ensures.ran (
+    all_from_yields_List is_lower_name _ _ _ c.all.ensures.ran (
     YieldsList-from_slice_split _ (λ b. eqb b 32) c.args.text.now c.split.ensures.rest c.split.ensures.done c.split.ensures.closure (λ x b q k. search (rules, tests))
     ) (λ x b q k. search (rules, tests))

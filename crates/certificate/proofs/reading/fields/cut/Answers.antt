@@ -1,12 +1,12 @@
-use Rattle.std.proofs.Common.{◌+◌, arith, add-one, sym}
-use Rattle.certificate.proofs.Cuts.{cut_first, cut_none, take_rest}
+use Rattle.std.proofs.Common.{◌+◌, add-one, Some, None, sym}
+use Rattle.certificate.proofs.Cuts.{cut_at, take_rest}
 use Rattle.certificate.proofs.reading.fields.cut.Goals as goal
 
-pub returns-then-found-byte : goal.returns-then-found-byte
-returns-then-found-byte c =
-    let text = c.args.text.now in
-    let i = c.loop-index.index in
-    rw (take_rest (i + 1) text, add-one i) (sym (cut_first c.args.byte text i c.loop-index-test.true c.loop-index.invariant c.if-found-byte.true))
+pub returns-in_err-place : goal.returns-in_err-place
+returns-in_err-place c =
+    rw c.from_residual.ensures (sym (cut_at c.args.byte c.args.text.now None c.in_err-place.ensures))
 
 pub returns : goal.returns
-returns c = sym (cut_none c.args.byte c.args.text.now (λ k lt. c.loop-index.invariant k (omega arith)))
+returns c =
+    let place = c.in_ok-place.place in
+    rw (take_rest (place + 1) c.args.text.now, add-one place) (sym (cut_at c.args.byte c.args.text.now (Some place) c.in_ok-place.ensures))
