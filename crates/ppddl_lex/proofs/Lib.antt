@@ -2,6 +2,6 @@ mod Steps
 mod Runs
 mod Next
 mod Only
-mod Places
+mod Offsets
 mod Whole
 mod Lowered

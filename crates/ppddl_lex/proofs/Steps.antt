@@ -1,38 +1,38 @@
 -- What one byte makes of the tokens behind it.
 use Rattle.std.proofs.Common.{◌≡◌, ℕ, suc, ◌==◌, Bool, true, false, cond, List, [], ◌∷◌, Ok, Err, refl, rules, tests}
-use Rattle.ppddl_lex.specs.declared.TokenKind.TheVariants as kind
+use Rattle.ppddl_lex.specs.declared.token_kind.TokenKind.TheVariants as kind
 use Rattle.ppddl_lex.specs.declared.bytes.ByteClass.{ByteClass}
 use Rattle.ppddl_lex.specs.declared.bytes.ByteClass.TheVariants as byte
 use Rattle.ppddl_lex.specs.declared.refusal.LexRefusal.TheVariants.{BadByte}
 use Rattle.ppddl_lex.specs.Bytes.{class_of}
 use Rattle.ppddl_lex.specs.Lexemes.{tokens_from, comment_from, put_word_byte, single}
 
-pub after_feed : (place line b : ℕ) (bs : List ℕ) → class_of b ≡ byte.LineFeed → tokens_from place line (b ∷ bs) ≡ tokens_from (suc place) (suc line) bs
-after_feed place line b bs e = rw (e, tokens_from) refl
+pub after_feed : (offset line b : ℕ) (bs : List ℕ) → class_of b ≡ byte.LineFeed → tokens_from offset line (b ∷ bs) ≡ tokens_from (suc offset) (suc line) bs
+after_feed offset line b bs e = rw (e, tokens_from) refl
 
-pub after_blank : (place line b : ℕ) (bs : List ℕ) → class_of b ≡ byte.Blank → tokens_from place line (b ∷ bs) ≡ tokens_from (suc place) line bs
-after_blank place line b bs e = rw (e, tokens_from) refl
+pub after_blank : (offset line b : ℕ) (bs : List ℕ) → class_of b ≡ byte.Blank → tokens_from offset line (b ∷ bs) ≡ tokens_from (suc offset) line bs
+after_blank offset line b bs e = rw (e, tokens_from) refl
 
-pub after_semicolon : (place line b : ℕ) (bs : List ℕ) → class_of b ≡ byte.Semicolon → tokens_from place line (b ∷ bs) ≡ comment_from (suc place) line bs
-after_semicolon place line b bs e = rw (e, tokens_from) refl
+pub after_semicolon : (offset line b : ℕ) (bs : List ℕ) → class_of b ≡ byte.Semicolon → tokens_from offset line (b ∷ bs) ≡ comment_from (suc offset) line bs
+after_semicolon offset line b bs e = rw (e, tokens_from) refl
 
-pub at_left : (place line b : ℕ) (bs : List ℕ) → class_of b ≡ byte.Left → tokens_from place line (b ∷ bs) ≡ Ok (single kind.Left place line) ∷ tokens_from (suc place) line bs
-at_left place line b bs e = rw (e, tokens_from) refl
+pub at_left : (offset line b : ℕ) (bs : List ℕ) → class_of b ≡ byte.Left → tokens_from offset line (b ∷ bs) ≡ Ok (single kind.Left offset line) ∷ tokens_from (suc offset) line bs
+at_left offset line b bs e = rw (e, tokens_from) refl
 
-pub at_right : (place line b : ℕ) (bs : List ℕ) → class_of b ≡ byte.Right → tokens_from place line (b ∷ bs) ≡ Ok (single kind.Right place line) ∷ tokens_from (suc place) line bs
-at_right place line b bs e = rw (e, tokens_from) refl
+pub at_right : (offset line b : ℕ) (bs : List ℕ) → class_of b ≡ byte.Right → tokens_from offset line (b ∷ bs) ≡ Ok (single kind.Right offset line) ∷ tokens_from (suc offset) line bs
+at_right offset line b bs e = rw (e, tokens_from) refl
 
-pub at_word_byte : (place line b : ℕ) (bs : List ℕ) → class_of b ≡ byte.Word → tokens_from place line (b ∷ bs) ≡ put_word_byte place line (tokens_from (suc place) line bs)
-at_word_byte place line b bs e = rw (e, tokens_from) refl
+pub at_word_byte : (offset line b : ℕ) (bs : List ℕ) → class_of b ≡ byte.Word → tokens_from offset line (b ∷ bs) ≡ put_word_byte offset line (tokens_from (suc offset) line bs)
+at_word_byte offset line b bs e = rw (e, tokens_from) refl
 
-pub at_bad : (place line b : ℕ) (bs : List ℕ) → class_of b ≡ byte.Bad → tokens_from place line (b ∷ bs) ≡ Err (BadByte line) ∷ []
-at_bad place line b bs e = rw (e, tokens_from) refl
+pub at_bad : (offset line b : ℕ) (bs : List ℕ) → class_of b ≡ byte.Bad → tokens_from offset line (b ∷ bs) ≡ Err (BadByte line) ∷ []
+at_bad offset line b bs e = rw (e, tokens_from) refl
 
-pub comment_ends : (place line b : ℕ) (bs : List ℕ) → (b == 10) ≡ true → comment_from place line (b ∷ bs) ≡ tokens_from (suc place) (suc line) bs
-comment_ends place line b bs e = rw (e, comment_from) refl
+pub comment_ends : (offset line b : ℕ) (bs : List ℕ) → (b == 10) ≡ true → comment_from offset line (b ∷ bs) ≡ tokens_from (suc offset) (suc line) bs
+comment_ends offset line b bs e = rw (e, comment_from) refl
 
-pub comment_goes_on : (place line b : ℕ) (bs : List ℕ) → (b == 10) ≡ false → comment_from place line (b ∷ bs) ≡ comment_from (suc place) line bs
-comment_goes_on place line b bs e = rw (e, comment_from) refl
+pub comment_goes_on : (offset line b : ℕ) (bs : List ℕ) → (b == 10) ≡ false → comment_from offset line (b ∷ bs) ≡ comment_from (suc offset) line bs
+comment_goes_on offset line b bs e = rw (e, comment_from) refl
 
 -- the class that the answers to the tests of class_of make
 abbrev class_by : Bool → Bool → Bool → Bool → Bool → Bool → ByteClass

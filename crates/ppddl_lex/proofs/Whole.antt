@@ -2,11 +2,11 @@
 use Rattle.std.proofs.Common.{◌≡◌, ℕ, ◌==◌, true, false, cond, if◌then◌else◌, List, [], ◌∷◌, Option, Some, None, Result, Ok, Err, ◌<◌, refl, ap, sym, subst, arith, nat_lt}
 use Rattle.std.proofs.lemmas.List.{append-nil}
 use Rattle.std.proofs.lemmas.Bool.{eqb-true, eq-eqb, ne_eqb}
-use Rattle.ppddl_lex.specs.declared.Token.{Token}
+use Rattle.ppddl_lex.specs.declared.token.Token.{Token}
 use Rattle.ppddl_lex.specs.declared.refusal.LexRefusal.{LexRefusal}
 use Rattle.ppddl_lex.specs.declared.refusal.LexRefusal.TheVariants.{BadByte, Unbalanced, TooDeep, Memory}
 use Rattle.ppddl_lex.specs.Tokens.{open_behind, open_after}
-use Rattle.ppddl_lex.specs.Lexemes.{Lexeme, tokens_from, nested, depth_behind, with_front, Gives}
+use Rattle.ppddl_lex.specs.Lexemes.{Lexeme, tokens_from, nested, depth_behind, with_front, GivesTokens}
 use Rattle.ppddl_lex.specs.Gaps.{IsGap, Spells}
 use Rattle.ppddl_lex.proofs.Next.{Begin, begins}
 
@@ -57,10 +57,10 @@ all_close last n (Ok t ∷ ls) ts e =
     rw (sym first.whole, open_after, first.leads) (all_close last first.depth ls first.rest first.answered)
 
 -- and with the gaps between them they spell the text
-all_spelled : (last n place line : ℕ) (bs : List ℕ) (ls : List Lexeme) (ts : List Token) → tokens_from place line bs ≡ ls → Begin IsGap place line bs ls → nested last n ls ≡ Ok ts → Spells place line bs ts
-all_spelled last n place line bs [] ts same h e = rw (none_open last n ts e).1 h
-all_spelled last n place line bs (Err x ∷ ls) ts same h e = absurd (cc)
-all_spelled last n place line bs (Ok t ∷ ls) ts same (gap, spelling, rest, is_gap, stands, ahead) e =
+all_spelled : (last n offset line : ℕ) (bs : List ℕ) (ls : List Lexeme) (ts : List Token) → tokens_from offset line bs ≡ ls → Begin IsGap offset line bs ls → nested last n ls ≡ Ok ts → Spells offset line bs ts
+all_spelled last n offset line bs [] ts same h e = rw (none_open last n ts e).1 h
+all_spelled last n offset line bs (Err x ∷ ls) ts same h e = absurd (cc)
+all_spelled last n offset line bs (Ok t ∷ ls) ts same (gap, spelling, rest, is_gap, stands, ahead) e =
     let first = first_is last n t ls ts e in
     rw (sym first.whole) (
       gap,
@@ -71,11 +71,11 @@ all_spelled last n place line bs (Ok t ∷ ls) ts same (gap, spelling, rest, is_
       all_spelled last first.depth t.to t.line rest ls first.rest (sym ahead) (subst (λ xs. Begin IsGap t.to t.line rest xs) (sym ahead) (begins t.to t.line rest)) first.answered,
     )
 
-pub spells : (last n place line : ℕ) (bs : List ℕ) (ts : List Token) → nested last n (tokens_from place line bs) ≡ Ok ts → Spells place line bs ts
-spells last n place line bs ts e = all_spelled last n place line bs (tokens_from place line bs) ts refl (begins place line bs) e
+pub spells : (last n offset line : ℕ) (bs : List ℕ) (ts : List Token) → nested last n (tokens_from offset line bs) ≡ Ok ts → Spells offset line bs ts
+spells last n offset line bs ts e = all_spelled last n offset line bs (tokens_from offset line bs) ts refl (begins offset line bs) e
 
 -- an answered refusal is the expected one, or it is want of memory
-pub gives_refusal : (e : LexRefusal) (expected : Result (List Token) LexRefusal) → Err e ≡ expected → Gives (Err e) expected
+pub gives_refusal : (e : LexRefusal) (expected : Result (List Token) LexRefusal) → Err e ≡ expected → GivesTokens (Err e) expected
 gives_refusal (BadByte line) expected same = sym same
 gives_refusal (Unbalanced line) expected same = sym same
 gives_refusal (TooDeep line) expected same = sym same

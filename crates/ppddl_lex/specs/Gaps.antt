@@ -1,12 +1,12 @@
 -- A text as tokens with gaps between them: the tokens, with the gaps, are the whole text.
---     IsGap bs                     blanks, ends of lines and whole comments
---     IsNext place line bs next    what comes next in the bytes bs, which begin at this place and on this line
---     Spells place line bs ts      the bytes bs are these tokens, each behind its gap, and a last gap
+--     IsGap bs                      blanks, ends of lines and whole comments
+--     IsNext offset line bs next    what comes next in the bytes bs, which begin at this offset and on this line
+--     Spells offset line bs ts      the bytes bs are these tokens, each behind its gap, and a last gap
 use Rattle.std.specs.Prelude.{◌≡◌, ◌≢◌, ℕ, ◌+◌, ◌<◌, ◌==◌, true, false, List, [], ◌∷◌, ◌++◌, length, Option, Some, None, Ok, Err}
 use Rattle.std.specs.List.{AllByRecursion}
-use Rattle.ppddl_lex.specs.declared.Token.{Token}
-use Rattle.ppddl_lex.specs.declared.TokenKind.{TokenKind}
-use Rattle.ppddl_lex.specs.declared.TokenKind.TheVariants as kind
+use Rattle.ppddl_lex.specs.declared.token.Token.{Token}
+use Rattle.ppddl_lex.specs.declared.token_kind.TokenKind.{TokenKind}
+use Rattle.ppddl_lex.specs.declared.token_kind.TokenKind.TheVariants as kind
 use Rattle.ppddl_lex.specs.declared.bytes.ByteClass.TheVariants as byte
 use Rattle.ppddl_lex.specs.declared.refusal.LexRefusal.{LexRefusal}
 use Rattle.ppddl_lex.specs.declared.refusal.LexRefusal.TheVariants.{BadByte}
@@ -47,10 +47,10 @@ IsSpelling kind.Right word rest = word ≡ 41 ∷ []
 IsSpelling kind.Word word rest = (0 < length word) × AllByRecursion (λ b. class_of b ≡ byte.Word) word × EndsWord rest
 
 -- the token t stands in the bytes bs, behind this gap and before the rest
-pub record Stands (place on : ℕ) (bs : List ℕ) (t : Token) (gap spelling rest : List ℕ) : Type 0 where
+pub record Stands (offset on : ℕ) (bs : List ℕ) (t : Token) (gap spelling rest : List ℕ) : Type 0 where
   pub whole : bs ≡ gap ++ (spelling ++ rest)
   pub spelled : IsSpelling t.kind spelling rest
-  pub from : t.from ≡ place + length gap
+  pub from : t.from ≡ offset + length gap
   pub to : t.to ≡ t.from + length spelling
   pub line : t.line ≡ on + line_feeds gap
 
@@ -61,11 +61,11 @@ pub record IsBad (line : ℕ) (bs : List ℕ) (e : LexRefusal) (gap : List ℕ) 
   pub refusal : e ≡ BadByte (line + line_feeds gap)
 
 abbrev pub IsNext : ℕ → ℕ → List ℕ → Option Lexeme → Type 0
-IsNext place line bs None = IsLastGap bs
-IsNext place line bs (Some (Ok t)) = (gap : List ℕ) × (spelling : List ℕ) × (rest : List ℕ) × IsGap gap × Stands place line bs t gap spelling rest
-IsNext place line bs (Some (Err e)) = (gap : List ℕ) × (b : ℕ) × (rest : List ℕ) × IsGap gap × IsBad line bs e gap b rest
+IsNext offset line bs None = IsLastGap bs
+IsNext offset line bs (Some (Ok t)) = (gap : List ℕ) × (spelling : List ℕ) × (rest : List ℕ) × IsGap gap × Stands offset line bs t gap spelling rest
+IsNext offset line bs (Some (Err e)) = (gap : List ℕ) × (b : ℕ) × (rest : List ℕ) × IsGap gap × IsBad line bs e gap b rest
 
 abbrev pub Spells : ℕ → ℕ → List ℕ → List Token → Type 0
-Spells place line bs [] = IsLastGap bs
-Spells place line bs (t ∷ ts) = (gap : List ℕ) × (spelling : List ℕ) × (rest : List ℕ)
-    × IsGap gap × Stands place line bs t gap spelling rest × Spells t.to t.line rest ts
+Spells offset line bs [] = IsLastGap bs
+Spells offset line bs (t ∷ ts) = (gap : List ℕ) × (spelling : List ℕ) × (rest : List ℕ)
+    × IsGap gap × Stands offset line bs t gap spelling rest × Spells t.to t.line rest ts

@@ -3,9 +3,9 @@
 --     open_after n ts      the number of open parentheses behind the tokens, where n are open before them; None where a `)` closes nothing
 --     IsClosed ts          every parenthesis that opens also closes, and none closes that did not open
 use Rattle.std.specs.Prelude.{◌≡◌, ℕ, zero, suc, ◌≤◌, List, [], ◌∷◌, Option, Some, None}
-use Rattle.ppddl_lex.specs.declared.Token.{Token}
-use Rattle.ppddl_lex.specs.declared.TokenKind.{TokenKind}
-use Rattle.ppddl_lex.specs.declared.TokenKind.TheVariants.{Left, Right, Word}
+use Rattle.ppddl_lex.specs.declared.token.Token.{Token}
+use Rattle.ppddl_lex.specs.declared.token_kind.TokenKind.{TokenKind}
+use Rattle.ppddl_lex.specs.declared.token_kind.TokenKind.TheVariants.{Left, Right, Word}
 
 pub record Lies (length : ℕ) (t : Token) : Type 0 where
   pub ordered : t.from ≤ t.to

@@ -1,16 +1,14 @@
--- Words: letters A to Z are read as a to z.
+-- Words. Letters A to Z are read as a to z.
 --     lowered w             the word w with its letters lowered; what a reader compares and keeps
 --     is_same_word w lower  w is this word of small letters
+--     is_reserved w         w is a word of the language, and no name
 --     is_name w             a letter, then letters, digits, `-` and `_`, and not reserved
 --     is_variable w         `?` and such a word, reserved or not
 --     is_flag w             a word that begins with `:`
-use Rattle.std.specs.Prelude.{◌≡◌, ℕ, ◌+◌, List, [], ◌∷◌, map, codes, Bool, true, false, cond, not, ◌==◌, ◌&&◌, ◌||◌, leb, refl}
+use Rattle.std.specs.Prelude.{◌≡◌, ℕ, List, [], ◌∷◌, codes, Bool, true, false, not, ◌==◌, ◌&&◌, ◌||◌, refl}
+use Rattle.std.specs.Char.{is_ascii_alphabetic, is_ascii_alphanumeric}
 use Rattle.std.specs.List.{list_any, list_all}
 use Rattle.std.specs.Str.{bytes_eq, str_to_ascii_lowercase}
-use Rattle.std.specs.Char.{to_ascii_lowercase}
-
-abbrev pub lowered_byte : ℕ → ℕ
-lowered_byte = to_ascii_lowercase
 
 abbrev pub lowered : List ℕ → List ℕ
 lowered = str_to_ascii_lowercase
@@ -18,21 +16,13 @@ lowered = str_to_ascii_lowercase
 abbrev pub is_same_word : List ℕ → List ℕ → Bool
 is_same_word w lower = bytes_eq (lowered w) lower
 
--- The tests below are on lowered bytes.
-
-abbrev pub is_letter : ℕ → Bool
-is_letter b = leb 97 b && leb b 122
-
-abbrev pub is_digit : ℕ → Bool
-is_digit b = leb 48 b && leb b 57
-
 -- a letter, a digit, `-` or `_`
 abbrev pub is_name_byte : ℕ → Bool
-is_name_byte b = is_letter b || is_digit b || b == 45 || b == 95
+is_name_byte b = is_ascii_alphanumeric b || b == 45 || b == 95
 
 abbrev pub has_name_form : List ℕ → Bool
 has_name_form [] = false
-has_name_form (b ∷ bs) = is_letter b && list_all is_name_byte bs
+has_name_form (b ∷ bs) = is_ascii_alphabetic b && list_all is_name_byte bs
 
 abbrev pub reserved_words : List (List ℕ)
 reserved_words =
@@ -43,15 +33,25 @@ abbrev pub is_reserved : List ℕ → Bool
 is_reserved w = list_any (is_same_word w) reserved_words
 
 abbrev pub is_name : List ℕ → Bool
-is_name w = has_name_form (lowered w) && not (is_reserved w)
+is_name w = has_name_form w && not (is_reserved w)
 
 abbrev pub is_variable : List ℕ → Bool
 is_variable [] = false
-is_variable (b ∷ bs) = b == 63 && has_name_form (lowered bs)
+is_variable (b ∷ bs) = b == 63 && has_name_form bs
 
 abbrev pub is_flag : List ℕ → Bool
 is_flag [] = false
 is_flag (b ∷ bs) = b == 58
+
+-- ---- laws
+
+abbrev pub LoweringIsIdempotent : Type 0
+LoweringIsIdempotent = (w : List ℕ) → lowered (lowered w) ≡ lowered w
+
+abbrev pub CaseOfNamesIsFree : Type 0
+CaseOfNamesIsFree = (w : List ℕ) → is_name (lowered w) ≡ is_name w
+
+-- ---- worked examples
 
 example_name : is_name (codes "Move-car_2") ≡ true
 example_name = refl

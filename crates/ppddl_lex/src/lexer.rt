@@ -1,9 +1,11 @@
 //! Tokens one after another, and all of them.
 
-ghost use Rattle.std.specs.Prelude.{◌≡◌, ℕ, ◌+◌, ◌*◌, ◌^◌, ◌<◌, ◌≤◌, ◌==◌, ◌↔◌, ◌∷◌, length, drop, All, IsNone, IfOk, Ok, slice_get, take_while, count_by};
+ghost use Rattle.std.specs.Prelude.{◌≡◌, ◌+◌, ◌^◌, ◌<◌, ◌≤◌, ◌↔◌};
+ghost use Rattle.std.specs.Prelude.{length, drop, All, IsNone, IfOk, Ok, take_while};
 ghost use Rattle.ppddl_lex.specs.Bytes.{is_word_byte, continues_comment, line_feeds};
 ghost use Rattle.ppddl_lex.specs.Gaps.{IsLastGap, IsNext, Spells};
-ghost use Rattle.ppddl_lex.specs.Lexemes.{tokens_at, tokens_of, token_of, depth_behind, Continues, Gives, IfToken, LiesBehind};
+ghost use Rattle.ppddl_lex.specs.Lexemes.{tokens_of, token_of, depth_behind, last_line};
+ghost use Rattle.ppddl_lex.specs.Lexemes.{Continues, GivesTokens, IfToken, LiesBehind};
 ghost use Rattle.ppddl_lex.specs.Tokens.{Lies, IsClosed};
 ghost use Rattle.ppddl_lex.specs.declared.lexer.TheConstants.{MOST_TEXT};
 
@@ -13,6 +15,8 @@ use std::alloc::Global;
 
 /// The greatest length of a text, in bytes.
 pub const MOST_TEXT: usize = 1_048_576;
+
+const _: () = prove!(MOST_TEXT == 1_048_576);
 
 /// The most parentheses that may be open.
 const MOST_OPEN: u32 = 100;
@@ -45,41 +49,41 @@ fn token(kind: TokenKind, from: usize, to: usize, line: u32) -> Token
     }
 }
 
-/// The next token of a text from `place` on, which is on `line` and in no comment; None where only blanks
+/// The next token of a text from `offset` on, which is on `line` and in no comment; None where only blanks
 /// and comments are left.
 ///
 /// Go on from the token's `to` and `line`, since a token holds no line feed. The refusal is
 /// `BadByte`, at a byte that comes next outside comments and is not allowed there. No memory is taken.
 // Inlined, so that a loop over tokens does not hand each one over through memory.
 #[inline(always)]
-pub fn next_token(text: &[u8], place: usize, line: u32) -> Option<Result<Token, LexRefusal>>
+pub fn next_token(text: &[u8], offset: usize, line: u32) -> Option<Result<Token, LexRefusal>>
     requires short { length text.now ≤ MOST_TEXT }
-    requires within { place ≤ length text.now }
+    requires within { offset ≤ length text.now }
     requires few_lines { line < 2 ^ 31 }
-    ensures next { Continues text.now place line result }
-    ensures lies { IfToken result (LiesBehind place line (length text.now)) }
+    ensures next { Continues text.now offset line result }
+    ensures lies { IfToken result (LiesBehind offset line (length text.now)) }
     // The line rises with each line feed that is passed, so the end of the text stays on the same line.
     ensures lines { IfToken result (λ t. t.line + line_feeds (drop t.to text.now)
-        ≡ line + line_feeds (drop place text.now)) }
+        ≡ line + line_feeds (drop offset text.now)) }
     // Nothing but a gap stands before it, and a word is a longest run.
-    ensures stands { IsNext place line (drop place text.now) result }
-    ensures end { IsNone result ↔ IsLastGap (drop place text.now) }
+    ensures stands { IsNext offset line (drop offset text.now) result }
+    ensures end { IsNone result ↔ IsLastGap (drop offset text.now) }
 {
-    let mut place = place;
+    let mut offset = offset;
     let mut line = line;
-    while place < text.len() {
-        match class_of(text[place]) {
+    while offset < text.len() {
+        match class_of(text[offset]) {
             ByteClass::LineFeed => {
-                place += 1;
+                offset += 1;
                 line += 1;
             }
-            ByteClass::Blank => place += 1,
-            ByteClass::Semicolon => place += comment_length(&text[place..]),
-            ByteClass::Left => return Some(Ok(token(TokenKind::Left, place, place + 1, line))),
-            ByteClass::Right => return Some(Ok(token(TokenKind::Right, place, place + 1, line))),
+            ByteClass::Blank => offset += 1,
+            ByteClass::Semicolon => offset += comment_length(&text[offset..]),
+            ByteClass::Left => return Some(Ok(token(TokenKind::Left, offset, offset + 1, line))),
+            ByteClass::Right => return Some(Ok(token(TokenKind::Right, offset, offset + 1, line))),
             ByteClass::Word => {
-                let end = place + word_length(&text[place..]);
-                return Some(Ok(token(TokenKind::Word, place, end, line)));
+                let end = offset + word_length(&text[offset..]);
+                return Some(Ok(token(TokenKind::Word, offset, end, line)));
             }
             ByteClass::Bad => return Some(Err(LexRefusal::BadByte { line })),
         }
@@ -103,18 +107,19 @@ fn depth_behind(depth: u32, token: Token) -> Result<u32, LexRefusal>
     }
 }
 
-/// How many lines end among the bytes.
-fn line_feeds(bytes: &[u8]) -> usize
-    ensures { result ≡ line_feeds bytes.now }
+/// The line on which a text ends, from 1.
+pub fn last_line(text: &[u8]) -> u32
+    requires { length text.now + 1 < 2 ^ 32 }
+    ensures { result ≡ last_line text.now }
 {
-    bytes.iter().filter(|byte| **byte == b'\n').count()
+    text.iter().filter(|byte| **byte == b'\n').count() as u32 + 1
 }
 
 /// All tokens of a text, in order, or the first refusal in byte order. What is open at the end is refused last, on
 /// the last line.
 pub fn tokens(alloc: Global, text: &[u8]) -> Result<List<Token>, LexRefusal>
     requires { length text.now ≤ MOST_TEXT }
-    ensures exact { Gives result (tokens_of text.now) }
+    ensures exact { GivesTokens result (tokens_of text.now) }
     ensures lie { IfOk result (All (Lies (length text.now))) }
     ensures closed { IfOk result IsClosed }
     // The tokens and the gaps between them are the whole text.
@@ -123,19 +128,20 @@ pub fn tokens(alloc: Global, text: &[u8]) -> Result<List<Token>, LexRefusal>
         → Spells 0 1 text.now others → others ≡ ts) }
 {
     let mut tokens = Vec::new(alloc);
-    let mut place = 0;
+    let mut offset = 0;
     let mut line = 1;
     let mut depth = 0;
-    while let Some(next) = next_token(text, place, line) {
+    while let Some(next) = next_token(text, offset, line) {
         let token = next?;
         depth = depth_behind(depth, token)?;
         tokens.push(token).map_err(|_| LexRefusal::Memory)?;
-        place = token.to as usize;
+        offset = token.to as usize;
         line = token.line;
     }
     if depth > 0 {
-        line += line_feeds(&text[place..]) as u32;
-        return Err(LexRefusal::Unbalanced { line });
+        return Err(LexRefusal::Unbalanced {
+            line: last_line(text),
+        });
     }
     Ok(List::from_vec(tokens))
 }

@@ -1,8 +1,8 @@
 //! Texts with their tokens and refusals, and words with their sorts.
 
 use crate::{
-    LexRefusal, Token, TokenKind, is_flag, is_name, is_reserved, is_same_word, is_variable,
-    next_token, tokens,
+    LexRefusal, MOST_TEXT, Token, TokenKind, is_flag, is_name, is_reserved, is_same_word,
+    is_variable, next_token, tokens,
 };
 use std::alloc::{AllocError, Global};
 use std::test::Fail;
@@ -107,7 +107,7 @@ fn written(alloc: Global, text: &[u8], tokens: &[Token]) -> Result<Vec<u8>, Allo
 #[test]
 fn texts_have_these_tokens(rt: HostRuntime) -> Result<(), Fail> {
     for (text, expected) in TEXTS {
-        assert!(rt; text.len() <= 1_048_576);
+        assert!(rt; text.len() <= MOST_TEXT);
         let tokens = tokens(rt.alloc(), text)?;
         let written = written(rt.alloc(), text, tokens.as_slice())?;
         assert_eq!(rt; written.as_slice(), expected);
@@ -118,7 +118,7 @@ fn texts_have_these_tokens(rt: HostRuntime) -> Result<(), Fail> {
 #[test]
 fn texts_are_refused_so(rt: HostRuntime) {
     for (text, expected) in REFUSED {
-        assert!(rt; text.len() <= 1_048_576);
+        assert!(rt; text.len() <= MOST_TEXT);
         assert!(rt; tokens(rt.alloc(), text).err() == Some(expected));
     }
 }

@@ -1,8 +1,10 @@
 //! What a word is. Letters A to Z are read as a to z, and no call takes memory.
 
 ghost use Rattle.std.specs.Prelude.{◌≡◌, ◌==◌, ◌↔◌, IsTrue};
+ghost use Rattle.std.specs.Char.{to_ascii_lowercase};
 ghost use Rattle.std.specs.List.{list_all, list_any, zip};
-ghost use Rattle.ppddl_lex.specs.Words.{lowered, lowered_byte, is_same_word, is_letter, is_name_byte, has_name_form, is_reserved, is_name, is_variable, is_flag};
+ghost use Rattle.ppddl_lex.specs.Words.{lowered, is_same_word, is_name_byte, has_name_form};
+ghost use Rattle.ppddl_lex.specs.Words.{is_reserved, is_name, is_variable, is_flag};
 
 /// The words that are no names.
 const RESERVED: [&[u8]; 15] = [
@@ -23,34 +25,13 @@ const RESERVED: [&[u8]; 15] = [
     b"reward",
 ];
 
-/// A byte, with A to Z read as a to z.
-pub fn lowered_byte(byte: u8) -> u8
-    ensures { result ≡ lowered_byte byte }
-{
-    byte.to_ascii_lowercase()
-}
-
-/// Whether a byte is a letter.
-fn is_letter(byte: u8) -> bool
-    ensures { result ≡ is_letter (lowered_byte byte) }
-{
-    matches!(lowered_byte(byte), b'a'..=b'z')
-}
-
-/// Whether a byte may stand in a name behind its first.
-fn is_name_byte(byte: u8) -> bool
-    ensures { result ≡ is_name_byte (lowered_byte byte) }
-{
-    matches!(lowered_byte(byte), b'a'..=b'z' | b'0'..=b'9' | b'-' | b'_')
-}
-
 /// Whether the bytes of a word, lowered, are those of `lower` as far as both go.
 fn agrees(word: &[u8], lower: &[u8]) -> bool
-    ensures { result ≡ list_all (λ p. lowered_byte p.0 == p.1) (zip word.now lower.now) }
+    ensures { result ≡ list_all (λ p. to_ascii_lowercase p.0 == p.1) (zip word.now lower.now) }
 {
     word.iter()
         .zip(lower)
-        .all(|(byte, small)| lowered_byte(*byte) == *small)
+        .all(|(byte, small)| byte.to_ascii_lowercase() == *small)
 }
 
 /// Whether a word is `lower`, which has small letters, once its own are lowered.
@@ -61,20 +42,27 @@ pub fn is_same_word(word: &[u8], lower: &[u8]) -> bool
     word.len() == lower.len() && agrees(word, lower)
 }
 
+/// Whether a byte may stand in a name behind its first.
+fn is_name_byte(byte: u8) -> bool
+    ensures { result ≡ is_name_byte byte }
+{
+    byte.is_ascii_alphanumeric() || byte == b'-' || byte == b'_'
+}
+
 /// Whether all bytes may stand in a name behind its first.
 fn are_name_bytes(bytes: &[u8]) -> bool
-    ensures { result ≡ list_all (λ b. is_name_byte (lowered_byte b)) bytes.now }
+    ensures { result ≡ list_all is_name_byte bytes.now }
 {
     bytes.iter().all(|byte| is_name_byte(*byte))
 }
 
 /// Whether a word begins with a letter and goes on with letters, digits, `-` and `_`.
 fn has_name_form(word: &[u8]) -> bool
-    ensures { result ≡ has_name_form (lowered word.now) }
+    ensures { result ≡ has_name_form word.now }
 {
-    match word {
-        [] => false,
-        [first, rest @ ..] => is_letter(*first) && are_name_bytes(rest),
+    match word.split_first() {
+        Some((first, rest)) => first.is_ascii_alphabetic() && are_name_bytes(rest),
+        None => false,
     }
 }
 

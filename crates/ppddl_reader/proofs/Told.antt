@@ -1,6 +1,6 @@
 -- What a text tells: its task, or that it has none.
 use Rattle.std.proofs.Common.{◌≡◌, ℕ, List, Some, Result, Ok, Err, ap}
-use Rattle.ppddl_lex.specs.declared.Token.{Token}
+use Rattle.ppddl_lex.specs.declared.token.Token.{Token}
 use Rattle.ppddl_lex.specs.declared.refusal.LexRefusal.{LexRefusal}
 use Rattle.ppddl_lex.specs.declared.refusal.LexRefusal.TheVariants as lex
 use Rattle.ppddl_lex.specs.Lexemes.{tokens_of}

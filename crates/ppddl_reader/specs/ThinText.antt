@@ -3,7 +3,7 @@
 --     not_lexed e                     the one refusal, where the text is no sequence of tokens
 --     Reads answer task               an answer tells the task of a text, or that there is none, unless memory ran out
 use Rattle.std.specs.Prelude.{◌≡◌, ℕ, List, Option, Some, None, Result, Ok, Err}
-use Rattle.ppddl_lex.specs.declared.Token.{Token}
+use Rattle.ppddl_lex.specs.declared.token.Token.{Token}
 use Rattle.ppddl_lex.specs.declared.refusal.LexRefusal.{LexRefusal}
 use Rattle.ppddl_lex.specs.declared.refusal.LexRefusal.TheVariants as lex
 use Rattle.ppddl_lex.specs.Lexemes.{tokens_of}

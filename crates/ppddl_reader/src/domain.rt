@@ -275,6 +275,7 @@ pub(crate) fn read_heading(
 }
 
 /// Reads `( define ( domain NAME ) .. )`.
+#[tactic(auto, using(token_cursor::proofs::GroupSteps::reading_steps), unfolding(crate::specs::Grammar::domain))]
 pub(crate) fn read_domain(alloc: Global, cursor: &mut Cursor<'_>) -> Result<Domain, TextRefusal>
     ensures gives { ReadsOne domain cursor.old cursor.new result }
     ensures fewer { OnOk result (size cursor.new < size cursor.old) }

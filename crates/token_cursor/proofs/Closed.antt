@@ -1,8 +1,8 @@
 -- Where every parenthesis of a text's tokens closes, counted from left to right, what lies ahead spells their pieces.
 use Rattle.std.proofs.Common.{◌≡◌, ℕ, zero, suc, List, [], ◌∷◌, true, Option, Some, None, refl, ap, ◌∙◌}
-use Rattle.ppddl_lex.specs.declared.Token.{Token}
-use Rattle.ppddl_lex.specs.declared.TokenKind.{TokenKind}
-use Rattle.ppddl_lex.specs.declared.TokenKind.TheVariants.{Left, Right, Word}
+use Rattle.ppddl_lex.specs.declared.token.Token.{Token}
+use Rattle.ppddl_lex.specs.declared.token_kind.TokenKind.{TokenKind}
+use Rattle.ppddl_lex.specs.declared.token_kind.TokenKind.TheVariants.{Left, Right, Word}
 use Rattle.ppddl_lex.specs.Tokens.{open_behind, open_after, IsClosed}
 use Rattle.token_cursor.specs.declared.place.Place.{Place}
 use Rattle.token_cursor.specs.Forms.{Piece, left, right, word, Form, lone, group}

@@ -139,3 +139,5 @@ pub ruleset group_steps = (
   giving_gives,
   giving_fails,
 )
+
+pub ruleset reading_steps = (group_step, with_step, then_step, last_step, giving_step)

@@ -3,9 +3,9 @@ use Rattle.std.proofs.Common.{◌≡◌, ℕ, zero, suc, ◌+◌, ◌<◌, ◌�
 use Rattle.std.proofs.Math.Seq.{drop-nil}
 use Rattle.std.proofs.lemmas.Bool.{cases_lt}
 use Rattle.std.specs.Prelude.{slice_range}
-use Rattle.ppddl_lex.specs.declared.Token.{Token}
-use Rattle.ppddl_lex.specs.declared.TokenKind.{TokenKind}
-use Rattle.ppddl_lex.specs.declared.TokenKind.TheVariants.{Left, Right, Word}
+use Rattle.ppddl_lex.specs.declared.token.Token.{Token}
+use Rattle.ppddl_lex.specs.declared.token_kind.TokenKind.{TokenKind}
+use Rattle.ppddl_lex.specs.declared.token_kind.TokenKind.TheVariants.{Left, Right, Word}
 use Rattle.ppddl_lex.specs.Words.{lowered}
 use Rattle.token_cursor.specs.declared.place.Place.{Place}
 use Rattle.token_cursor.specs.declared.cursor.Next.{Next}

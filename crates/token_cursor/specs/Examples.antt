@@ -1,9 +1,9 @@
 -- Worked examples, which compute; and the small grammar that the tests read.
 use Rattle.std.specs.Prelude.{◌≡◌, ℕ, List, [], ◌∷◌, ◌++◌, Bool, Result, Ok, codes, refl, cond}
 use Rattle.std.specs.List.{list_any}
-use Rattle.ppddl_lex.specs.declared.Token.{Token}
-use Rattle.ppddl_lex.specs.declared.TokenKind.{TokenKind}
-use Rattle.ppddl_lex.specs.declared.TokenKind.TheVariants.{Left, Right, Word}
+use Rattle.ppddl_lex.specs.declared.token.Token.{Token}
+use Rattle.ppddl_lex.specs.declared.token_kind.TokenKind.{TokenKind}
+use Rattle.ppddl_lex.specs.declared.token_kind.TokenKind.TheVariants.{Left, Right, Word}
 use Rattle.ppddl_model.specs.declared.refusal.TextCode.TheVariants.{Expected, Twice}
 use Rattle.token_cursor.specs.declared.place.Place.{Place}
 use Rattle.token_cursor.specs.Forms.{left, right, word, Form, Forms, lone, group, none, more}

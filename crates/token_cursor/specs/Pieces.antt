@@ -3,9 +3,9 @@
 --     pieces text n ts        the pieces of its tokens
 --     text_ahead text n ts    what lies ahead at the beginning of the text
 use Rattle.std.specs.Prelude.{ℕ, List, map, slice_range}
-use Rattle.ppddl_lex.specs.declared.Token.{Token}
-use Rattle.ppddl_lex.specs.declared.TokenKind.{TokenKind}
-use Rattle.ppddl_lex.specs.declared.TokenKind.TheVariants.{Left, Right, Word}
+use Rattle.ppddl_lex.specs.declared.token.Token.{Token}
+use Rattle.ppddl_lex.specs.declared.token_kind.TokenKind.{TokenKind}
+use Rattle.ppddl_lex.specs.declared.token_kind.TokenKind.TheVariants.{Left, Right, Word}
 use Rattle.ppddl_lex.specs.Words.{lowered}
 use Rattle.ppddl_lex.specs.Lexemes.{last_line}
 use Rattle.token_cursor.specs.declared.place.Place.{Place}

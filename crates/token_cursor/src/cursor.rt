@@ -7,12 +7,11 @@ ghost use Rattle.ppddl_lex.specs.Words.{lowered};
 ghost use Rattle.token_cursor.specs.declared.cursor.Next.TheVariants.{Word, End};
 ghost use Rattle.token_cursor.specs.Ahead.{size, is_top, pieces_of, after, next_of, place_of, word_of, has_form, is_word, same};
 ghost use Rattle.token_cursor.specs.Pieces.{pieces, text_ahead};
-ghost use Rattle.ppddl_lex.specs.Lexemes.{last_line};
 ghost use Rattle.token_cursor.specs.Reading.{Gives, one_at, rest_at, all_at, ends, opened, wanted};
 ghost use Rattle.token_cursor.specs.Sequences.{keyword, begun};
 
 use crate::place::Place;
-use ppddl_lex::{Token, TokenKind, is_same_word, lowered_byte};
+use ppddl_lex::{Token, TokenKind, is_same_word, last_line};
 use ppddl_model::{Text, TextCode, TextRefusal};
 use std::alloc::{AllocError, Global};
 use std::marker::Model;
@@ -114,7 +113,7 @@ impl<'a> Cursor<'a> {
         let bytes = self
             .raw_word()
             .iter()
-            .map(|byte| lowered_byte(*byte))
+            .map(|byte| byte.to_ascii_lowercase())
             .collect(alloc)?;
         Ok(Text::from_vec(bytes))
     }
@@ -237,12 +236,4 @@ impl<'a> Cursor<'a> {
         }
         Ok(())
     }
-}
-
-/// The line on which a text ends, from 1.
-fn last_line(text: &[u8]) -> u32
-    requires { length text.now + 1 < 2 ^ 32 }
-    ensures { result ≡ last_line text.now }
-{
-    text.iter().filter(|byte| **byte == b'\n').count() as u32 + 1
 }

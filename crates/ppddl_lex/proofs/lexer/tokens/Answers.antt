@@ -1,9 +1,7 @@
 -- What is told when the loop ends is the whole text's answer, and an answer's laws are laws of the definition.
-use Rattle.std.proofs.Common.{◌≡◌, ◌+◌, Ok, Err, sym, ap, ◌∙◌, arith}
-use Rattle.std.proofs.lemmas.List.{take_rest}
+use Rattle.std.proofs.Common.{Ok, Err, sym, ap, ◌∙◌, arith}
 use Rattle.std.proofs.lemmas.Result.{err_from_is_err_and}
 use Rattle.ppddl_lex.specs.declared.refusal.LexRefusal.TheVariants.{Unbalanced}
-use Rattle.ppddl_lex.specs.Bytes.{line_feeds}
 use Rattle.ppddl_lex.specs.Lexemes.{tokens_of, tokens_at, nested, with_front, last_line}
 use Rattle.ppddl_lex.proofs.Only.{one_spelling}
 use Rattle.ppddl_lex.proofs.Whole.{all_close, spells, gives_refusal, ends_closed, ends_open}
@@ -20,12 +18,10 @@ returns-in_err-token-clause-exact c =
 pub returns-then-depth-gt0-clause-exact : goal.returns-then-depth-gt0-clause-exact
 returns-then-depth-gt0-clause-exact c =
     let l = c.loop-next in
-    let text = c.args.text.now in
-    let last : last_line text ≡ l.line + c.line_feeds.result =
-    sym (ap (λ n. l.line + n) (c.line_feeds.ensures ∙ ap line_feeds (take_rest text l.place)) ∙ l.invariant.counted) in
-    sym l.invariant.told ∙ ap (λ ls. with_front l.tokens.items (nested (last_line text) l.depth ls)) c.in_default.ensures.next
-    ∙ ends_open l.tokens.items (last_line text) l.depth c.if-depth-gt0.true
-    ∙ ap (λ n. Err (Unbalanced n)) last
+    let last = last_line c.args.text.now in
+    sym l.invariant.told ∙ ap (λ ls. with_front l.tokens.items (nested last l.depth ls)) c.in_default.ensures.next
+    ∙ ends_open l.tokens.items last l.depth c.if-depth-gt0.true
+    ∙ ap (λ n. Err (Unbalanced n)) (sym c.last_line.ensures)
 
 pub returns-clause-exact : goal.returns-clause-exact
 returns-clause-exact c =
