@@ -4,6 +4,3 @@ pub mod Closed
 pub mod Results
 pub mod Steps
 pub mod Taken
-pub mod WordReaders
-pub mod GroupSteps
-pub mod TextSteps

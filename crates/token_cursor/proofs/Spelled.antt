@@ -1,11 +1,11 @@
 -- What lies ahead of pieces that it spells, by the first of them.
-use Rattle.std.proofs.Common.{◌≡◌, ℕ, List, [], ◌∷◌, ◌++◌, refl, sym, ap, ◌∙◌, append_assoc}
+use Rattle.std.proofs.Common.{◌≡◌, ℕ, List, [], ◌∷◌, ◌++◌, Some, refl, sym, ap, ◌∙◌, append_assoc}
 use Rattle.std.proofs.lemmas.List.{append-nil}
 use Rattle.token_cursor.specs.declared.place.Place.{Place}
-use Rattle.token_cursor.specs.declared.cursor.Next.{Next}
-use Rattle.token_cursor.specs.declared.cursor.Next.TheVariants as next
+use Rattle.ppddl_lex.specs.declared.token_kind.TokenKind.{TokenKind}
+use Rattle.ppddl_lex.specs.declared.token_kind.TokenKind.TheVariants.{Left, Right, Word}
 use Rattle.token_cursor.specs.Forms.{Piece, left, right, word, Form, Forms, lone, group, none, spell, spell_all, begin_of}
-use Rattle.token_cursor.specs.Ahead.{Ahead, top, inner, put, put_left, ahead_of, pieces_of, after, next_of, next_form, place_of, word_of}
+use Rattle.token_cursor.specs.Ahead.{Ahead, top, inner, put, put_left, ahead_of, pieces_of, after, next_of, kind_of, place_of, word_of}
 use Rattle.token_cursor.specs.Stored.{ahead-spell_all, put_all-inner}
 
 -- what lies ahead of pieces spells them: each parenthesis that opens among them also closes
@@ -55,25 +55,25 @@ after_first e (word w a) ps spelled =
 
 -- ---- the first piece
 
-abbrev pub next_piece : Piece → Next
-next_piece (left a) = next.Open
-next_piece (right b) = next.Close
-next_piece (word w a) = next.Word
+abbrev pub kind_of_piece : Piece → TokenKind
+kind_of_piece (left a) = Left
+kind_of_piece (right b) = Right
+kind_of_piece (word w a) = Word
 
 abbrev pub place_of_piece : Piece → Place
 place_of_piece (left a) = a
 place_of_piece (right b) = b
 place_of_piece (word w a) = a
 
-next-put : (f : Form) (h : Ahead) → next_of (put f h) ≡ next_form f
+next-put : (f : Form) (h : Ahead) → next_of (put f h) ≡ Some (kind_of f)
 next-put f (top fs e) = refl
 next-put f (inner fs b out) = refl
 
-next-put_left : (a : Place) (h : Ahead) → next_of (put_left a h) ≡ next.Open
+next-put_left : (a : Place) (h : Ahead) → next_of (put_left a h) ≡ Some Left
 next-put_left a (top fs e) = refl
 next-put_left a (inner fs b out) = next-put (group a fs b) out
 
-pub next_first : (e : Place) (p : Piece) (ps : List Piece) → next_of (ahead_of e (p ∷ ps)) ≡ next_piece p
+pub next_first : (e : Place) (p : Piece) (ps : List Piece) → next_of (ahead_of e (p ∷ ps)) ≡ Some (kind_of_piece p)
 next_first e (left a) ps = next-put_left a (ahead_of e ps)
 next_first e (right b) ps = refl
 next_first e (word w a) ps = next-put (lone w a) (ahead_of e ps)

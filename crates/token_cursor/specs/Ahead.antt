@@ -3,14 +3,15 @@
 --     ahead_of e ps       what pieces are ahead as, where the text ends at e
 --     pieces_of h         the pieces that lie ahead, and `end_of h` the end of the text
 --     after h             what is ahead behind the next piece
---     next_of h           what the next piece is, `place_of h` where it stands, and `word_of h` its word
+--     next_of h           the kind of the next piece, `place_of h` where it stands, and `word_of h` its word
 --     has_form h          a form is next, and neither the end of a group nor that of the text
---     is_word w h         the word w is next
-use Rattle.std.specs.Prelude.{ℕ, List, [], ◌∷◌, ◌++◌, length, Bool, true, false, nat_eq}
+--     is_word w h         the word w of small letters is next, in letters of either case
+use Rattle.std.specs.Prelude.{ℕ, List, [], ◌∷◌, ◌++◌, length, Bool, true, false, nat_eq, Option, Some, None}
 use Rattle.std.specs.Cmp.Lexicographic.{pointwise}
+use Rattle.ppddl_lex.specs.declared.token_kind.TokenKind.{TokenKind}
+use Rattle.ppddl_lex.specs.declared.token_kind.TokenKind.TheVariants.{Left, Right, Word}
+use Rattle.ppddl_lex.specs.Words.{is_same_word}
 use Rattle.token_cursor.specs.declared.place.Place.{Place}
-use Rattle.token_cursor.specs.declared.cursor.Next.{Next}
-use Rattle.token_cursor.specs.declared.cursor.Next.TheVariants as next
 use Rattle.token_cursor.specs.Forms.{Piece, left, right, word, Form, Forms, lone, group, none, more, spell_all, begin_of}
 
 pub data Ahead : Type 0 where
@@ -58,15 +59,16 @@ after (inner none b out) = out
 after (inner (more (lone w a) fs) b out) = inner fs b out
 after (inner (more (group a fs b) gs) c out) = inner fs b (inner gs c out)
 
-abbrev pub next_form : Form → Next
-next_form (lone w a) = next.Word
-next_form (group a fs b) = next.Open
+abbrev pub kind_of : Form → TokenKind
+kind_of (lone w a) = Word
+kind_of (group a fs b) = Left
 
-abbrev pub next_of : Ahead → Next
-next_of (top none e) = next.End
-next_of (top (more f fs) e) = next_form f
-next_of (inner none b out) = next.Close
-next_of (inner (more f fs) b out) = next_form f
+-- None at the end of the text
+abbrev pub next_of : Ahead → Option TokenKind
+next_of (top none e) = None
+next_of (top (more f fs) e) = Some (kind_of f)
+next_of (inner none b out) = Some Right
+next_of (inner (more f fs) b out) = Some (kind_of f)
 
 abbrev pub has_form : Ahead → Bool
 has_form (top none e) = false
@@ -97,7 +99,7 @@ abbrev pub same : List ℕ → List ℕ → Bool
 same = pointwise nat_eq
 
 abbrev pub is_word_form : List ℕ → Form → Bool
-is_word_form w (lone v a) = same v w
+is_word_form w (lone v a) = is_same_word v w
 is_word_form w (group a fs b) = false
 
 abbrev pub is_word : List ℕ → Ahead → Bool

@@ -1,4 +1,4 @@
--- The pieces of a text's tokens. Words are lowered here, and nowhere else.
+-- The pieces of a text's tokens. A word is the slice of its token.
 --     piece text n t          the piece of the token t of a text that is number n of those read
 --     pieces text n ts        the pieces of its tokens
 --     text_ahead text n ts    what lies ahead at the beginning of the text
@@ -6,7 +6,6 @@ use Rattle.std.specs.Prelude.{ℕ, List, map, slice_range}
 use Rattle.ppddl_lex.specs.declared.token.Token.{Token}
 use Rattle.ppddl_lex.specs.declared.token_kind.TokenKind.{TokenKind}
 use Rattle.ppddl_lex.specs.declared.token_kind.TokenKind.TheVariants.{Left, Right, Word}
-use Rattle.ppddl_lex.specs.Words.{lowered}
 use Rattle.ppddl_lex.specs.Lexemes.{last_line}
 use Rattle.token_cursor.specs.declared.place.Place.{Place}
 use Rattle.token_cursor.specs.Forms.{Piece, left, right, word}
@@ -18,7 +17,7 @@ piece_by Right w a = right a
 piece_by Word w a = word w a
 
 abbrev pub piece : List ℕ → ℕ → Token → Piece
-piece text n t = piece_by t.kind (lowered (slice_range text t.from t.to)) (record { file = n; line = t.line })
+piece text n t = piece_by t.kind (slice_range text t.from t.to) (record { file = n; line = t.line })
 
 abbrev pub pieces : List ℕ → ℕ → List Token → List Piece
 pieces text n ts = map (piece text n) ts

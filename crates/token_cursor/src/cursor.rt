@@ -1,13 +1,19 @@
-//! The cursor: a place between two tokens of a text. After a refusal it is not used again.
+//! The cursor: a place between two tokens of a text.
+//!
+//! After a refusal a cursor is not used again, so what a call that refuses goes past is free, but where a
+//! clause says that it stays.
 
-ghost use Rattle.std.specs.Prelude.{◌≡◌, ◌≢◌, ◌<◌, ◌+◌, ◌^◌, length, All, true, IfOk, OnOk, OnErr, IsErrOf};
-ghost use Rattle.ppddl_model.specs.declared.refusal.TextRefusal.TheVariants.{At};
+ghost use Rattle.std.specs.Prelude.{◌≡◌, ◌≢◌, ◌<◌, ◌+◌, ◌^◌, length, All, true, Some, None};
+ghost use Rattle.std.specs.Prelude.{IfOk, OnOk, OnErr, IsErrOf};
 ghost use Rattle.ppddl_lex.specs.Tokens.{Lies, IsClosed};
-ghost use Rattle.ppddl_lex.specs.Words.{lowered};
-ghost use Rattle.token_cursor.specs.declared.cursor.Next.TheVariants.{Word, End};
-ghost use Rattle.token_cursor.specs.Ahead.{size, is_top, pieces_of, after, next_of, place_of, word_of, has_form, is_word, same};
+ghost use Rattle.ppddl_lex.specs.Words.{lowered, is_same_word};
+ghost use Rattle.ppddl_lex.specs.declared.token_kind.TokenKind.TheVariants.{Word};
+ghost use Rattle.ppddl_model.specs.declared.refusal.TextRefusal.TheVariants.{At};
+ghost use Rattle.token_cursor.specs.Ahead.{size, is_top, pieces_of, after};
+ghost use Rattle.token_cursor.specs.Ahead.{next_of, place_of, word_of, has_form, is_word};
 ghost use Rattle.token_cursor.specs.Pieces.{pieces, text_ahead};
-ghost use Rattle.token_cursor.specs.Reading.{Gives, one_at, rest_at, all_at, ends, opened, wanted};
+ghost use Rattle.token_cursor.specs.Reading.{Gives, one_at, rest_at, all_at};
+ghost use Rattle.token_cursor.specs.Reading.{ends, opened, word_at, wanted};
 ghost use Rattle.token_cursor.specs.Sequences.{keyword, begun};
 
 use crate::place::Place;
@@ -15,19 +21,6 @@ use ppddl_lex::{Token, TokenKind, is_same_word, last_line};
 use ppddl_model::{Text, TextCode, TextRefusal};
 use std::alloc::{AllocError, Global};
 use std::marker::Model;
-
-/// What stands next.
-#[derive(Clone, Copy, Debug, PartialEq, Eq)]
-pub enum Next {
-    /// A word.
-    Word,
-    /// `(`
-    Open,
-    /// `)`
-    Close,
-    /// The end of the text.
-    End,
-}
 
 /// A place between two tokens of a text, which contracts see as what lies ahead of it.
 #[derive(Drop, Debug)]
@@ -72,58 +65,61 @@ impl<'a> Cursor<'a> {
         }
     }
 
-    /// What stands next.
-    pub fn next(&self) -> Next
+    /// What stands next; None at the end of the text.
+    pub fn peek(&self) -> Option<TokenKind>
         ensures { result ≡ next_of self.now }
     {
-        match self.tokens.get(self.index) {
-            None => Next::End,
-            Some(token) => match token.kind {
-                TokenKind::Left => Next::Open,
-                TokenKind::Right => Next::Close,
-                TokenKind::Word => Next::Word,
-            },
-        }
+        let token = self.tokens.get(self.index)?;
+        Some(token.kind)
     }
 
     /// Whether a form is next, and neither the end of a group nor that of the text.
     pub fn has_form(&self) -> bool
         ensures { result ≡ has_form self.now }
     {
-        match self.next() {
-            Next::Word | Next::Open => true,
-            Next::Close | Next::End => false,
-        }
+        matches!(self.peek(), Some(TokenKind::Word | TokenKind::Left))
     }
 
-    /// The next word, in letters of either case.
-    pub fn raw_word(&self) -> &'a [u8]
-        requires { next_of self.now ≡ Word }
-        ensures { lowered result.now ≡ word_of self.now }
+    /// The next word, as it stands in the text.
+    pub fn word(&self) -> &'a [u8]
+        requires { next_of self.now ≡ Some Word }
+        ensures { result.now ≡ word_of self.now }
     {
         let token = &self.tokens[self.index];
         &self.text[token.from as usize..token.to as usize]
     }
 
-    /// A copy of the next word, in lower case.
-    pub fn word(&self, alloc: Global) -> Result<Text, AllocError>
-        requires { next_of self.now ≡ Word }
-        ensures { IfOk result (λ word. word ≡ word_of self.now) }
+    /// The next word, as it stands in the text. Anything else that stands next is refused as `Expected`.
+    pub fn word_ahead(&self) -> Result<&'a [u8], TextRefusal>
+        ensures gives { Gives (λ word. word.now) result (word_at self.now) }
+        ensures stands { OnOk result (next_of self.now ≡ Some Word) }
+        ensures no_memory { ¬ IsErrOf result TextRefusal.Memory }
     {
-        let bytes = self
-            .raw_word()
-            .iter()
-            .map(|byte| byte.to_ascii_lowercase())
-            .collect(alloc)?;
-        Ok(Text::from_vec(bytes))
+        match self.peek() {
+            Some(TokenKind::Word) => Ok(self.word()),
+            _ => Err(self.refusal(TextCode::Expected)),
+        }
+    }
+
+    /// A copy of the next word, in lower case.
+    pub fn lowered_word(&self, alloc: Global) -> Result<Text, AllocError>
+        requires { next_of self.now ≡ Some Word }
+        ensures { IfOk result (λ word. word ≡ lowered (word_of self.now)) }
+    {
+        let word = self.word().to_ascii_lowercase(alloc)?;
+        Ok(Text::from_vec(word))
     }
 
     /// Whether this word is next. It is given in lower case, and may stand in letters of either case.
     pub fn is_word(&self, word: &[u8]) -> bool
         ensures answer { result ≡ is_word word.now self.now }
-        ensures compares { next_of self.now ≡ Word → result ≡ same (word_of self.now) word.now }
+        ensures compares { next_of self.now ≡ Some Word
+            → result ≡ is_same_word (word_of self.now) word.now }
     {
-        self.next() == Next::Word && is_same_word(self.raw_word(), word)
+        match self.peek() {
+            Some(TokenKind::Word) => is_same_word(self.word(), word),
+            _ => false,
+        }
     }
 
     /// Where the next token stands; at the end of the text, its last line.
@@ -149,7 +145,7 @@ impl<'a> Cursor<'a> {
 
     /// Goes past the next token.
     pub fn advance(&mut self)
-        requires { next_of self.old ≢ End }
+        requires { next_of self.old ≢ None }
         ensures after { self.new ≡ after self.old }
         ensures fewer { size self.new < size self.old }
     {
@@ -181,7 +177,7 @@ impl<'a> Cursor<'a> {
         ensures kept { OnErr result (self.new ≡ self.old) }
         ensures no_memory { ¬ IsErrOf result TextRefusal.Memory }
     {
-        if self.next() != Next::Open {
+        if self.peek() != Some(TokenKind::Left) {
             return Err(self.refusal(TextCode::Expected));
         }
         self.advance();
@@ -219,7 +215,7 @@ impl<'a> Cursor<'a> {
         ensures kept { OnErr result (self.new ≡ self.old) }
         ensures no_memory { ¬ IsErrOf result TextRefusal.Memory }
     {
-        if self.next() != Next::Close {
+        if self.peek() != Some(TokenKind::Right) {
             return Err(self.refusal(TextCode::Expected));
         }
         self.advance();
@@ -231,7 +227,7 @@ impl<'a> Cursor<'a> {
         ensures gives { Gives (λ _. tt) result (all_at ends self.now) }
         ensures no_memory { ¬ IsErrOf result TextRefusal.Memory }
     {
-        if self.next() != Next::End {
+        if self.peek().is_some() {
             return Err(self.refusal(TextCode::Expected));
         }
         Ok(())

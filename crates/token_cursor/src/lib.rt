@@ -8,9 +8,11 @@
 mod cursor;
 mod laws;
 mod place;
-#[cfg(test)]
-mod tests;
 
-pub use cursor::{Cursor, Next};
+pub use cursor::Cursor;
 pub use laws::reading_laws;
 pub use place::Place;
+pub use ppddl_lex::TokenKind;
+
+#[cfg(test)]
+mod tests;
