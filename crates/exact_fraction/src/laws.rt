@@ -2,6 +2,7 @@
 
 ghost use Rattle.exact_fraction.specs.Laws.{ProbabilitiesAreReduced, ProbabilitiesAreExact};
 ghost use Rattle.exact_fraction.specs.Laws.{AmountsAreExact};
+ghost use Rattle.exact_fraction.specs.Laws.{ProbabilitiesIgnoreCase, AmountsIgnoreCase};
 ghost use Rattle.exact_fraction.specs.Laws.{GcdIsGreatest, GcdIsUnique};
 ghost use Rattle.exact_fraction.specs.Laws.{LcmIsLeast, LcmIsUnique, LcmIsPositive};
 ghost use Rattle.exact_fraction.specs.Laws.{CommonMultipleIsLeast, CommonMultipleIsUnique};
@@ -12,6 +13,8 @@ pub fn number_laws()
     ensures reduced { ProbabilitiesAreReduced }
     ensures probability_value { ProbabilitiesAreExact }
     ensures amount_value { AmountsAreExact }
+    ensures probability_case { ProbabilitiesIgnoreCase }
+    ensures amount_case { AmountsIgnoreCase }
 {}
 
 /// What `gcd_of`, `lcm_of` and `common_multiple` are, for numbers of every size.

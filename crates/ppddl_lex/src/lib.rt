@@ -2,6 +2,7 @@
 #![tactic(auto)]
 
 mod bytes;
+pub mod keywords;
 mod laws;
 mod lexer;
 mod refusal;

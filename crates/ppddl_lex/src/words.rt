@@ -6,23 +6,28 @@ ghost use Rattle.std.specs.List.{list_all, list_any, zip};
 ghost use Rattle.ppddl_lex.specs.Words.{lowered, is_same_word, is_name_byte, has_name_form};
 ghost use Rattle.ppddl_lex.specs.Words.{is_reserved, is_name, is_variable, is_flag};
 
+use crate::keywords::{
+    AND, ASSIGN, DECREASE, EITHER, EXISTS, FORALL, IMPLY, INCREASE, NOT, OR, PROBABILISTIC, REWARD,
+    SCALE_DOWN, SCALE_UP, WHEN,
+};
+
 /// The words that are no names.
 const RESERVED: [&[u8]; 15] = [
-    b"and",
-    b"or",
-    b"not",
-    b"imply",
-    b"exists",
-    b"forall",
-    b"when",
-    b"probabilistic",
-    b"increase",
-    b"decrease",
-    b"assign",
-    b"scale-up",
-    b"scale-down",
-    b"either",
-    b"reward",
+    AND,
+    OR,
+    NOT,
+    IMPLY,
+    EXISTS,
+    FORALL,
+    WHEN,
+    PROBABILISTIC,
+    INCREASE,
+    DECREASE,
+    ASSIGN,
+    SCALE_UP,
+    SCALE_DOWN,
+    EITHER,
+    REWARD,
 ];
 
 /// Whether the bytes of a word, lowered, are those of `lower` as far as both go.

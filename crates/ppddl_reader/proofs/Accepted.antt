@@ -1,8 +1,7 @@
--- What the grammar accepts is derived. Each reading that gave a value gave it by one case of the grammar:
---     bind_case, test_passes, test_fails     one step gave a value, and then the others; a test passed or failed
+-- What the grammar accepts is derived. Each reading that gave a value gave it by one case of the grammar.
 --     group_case, then_case, last_case, ..   which forms were read
 --     accepted_is_derived                    the whole text
-use Rattle.std.proofs.Common.{◌≡◌, ◌≢◌, ℕ, ◌^◌, ◌≤◌, List, [], ◌∷◌, ◌++◌, length, Bool, true, false, cond, codes, ◌==◌, Option, Some, None, Result, Ok, Err, All, AllPairs, refl, sym, ap, subst, ◌∙◌, arith, append_assoc, length-append, true≢false}
+use Rattle.std.proofs.Common.{◌≡◌, ◌≢◌, ℕ, ◌^◌, ◌≤◌, List, [], ◌∷◌, ◌++◌, length, Bool, true, false, not, cond, ◌==◌, Option, Some, None, Result, Ok, Err, All, AllPairs, refl, sym, ap, subst, ◌∙◌, arith, append_assoc, length-append, true≢false}
 use Rattle.std.specs.List.{list_any}
 use Rattle.std.specs.Cmp.Lexicographic.{bytes_decides}
 use Rattle.std.proofs.lemmas.Bool.{eqb-false}
@@ -12,7 +11,9 @@ use Rattle.std.proofs.lemmas.List.Quantifiers.{all_pairs_push}
 use Rattle.exact_fraction.specs.declared.fraction.Fraction.{Fraction}
 use Rattle.exact_fraction.specs.declared.refusal.NumberRefusal.{NumberRefusal}
 use Rattle.exact_fraction.specs.Numbers.{amount_of, probability_of}
+use Rattle.ppddl_lex.specs.declared.keywords.TheConstants.{DOMAIN, DOMAIN_FLAG, MAXIMIZE, METRIC_FLAG, PREDICATES_FLAG, PROBLEM, REQUIREMENTS_FLAG, REWARD}
 use Rattle.ppddl_lex.specs.Words.{is_name, is_flag}
+use Rattle.ppddl_model.specs.declared.refusal.TextCode.TheVariants.{Expected, UnknownName, Twice, DomainName}
 use Rattle.ppddl_model.specs.declared.tree.Action.{Action}
 use Rattle.ppddl_model.specs.declared.tree.Atom.{Atom}
 use Rattle.ppddl_model.specs.declared.tree.Condition.{Condition}
@@ -26,31 +27,19 @@ use Rattle.ppddl_model.specs.declared.tree.Problem.{Problem}
 use Rattle.token_cursor.specs.declared.place.Place.{Place}
 use Rattle.token_cursor.specs.Ahead.{same}
 use Rattle.token_cursor.specs.Forms.{Form, Forms, lone, group, none, more, begin_of}
-use Rattle.plain_list.specs.Results.{◌>>=◌}
-use Rattle.token_cursor.specs.Reading.{Fault}
-use Rattle.ppddl_reader.specs.declared.domain.FirstSection.{FirstSection}
-use Rattle.ppddl_reader.specs.declared.domain.FirstSection.TheVariants as first
-use Rattle.ppddl_reader.specs.declared.words.Name.{Name}
+use Rattle.plain_list.proofs.Results.{bind_ok, ok_is, test_passes, test_fails}
+use Rattle.token_cursor.specs.Reading.{Fault, fails}
+use Rattle.ppddl_reader.specs.declared.first_section.FirstSection.{FirstSection}
+use Rattle.ppddl_reader.specs.declared.first_section.FirstSection.TheVariants as first
+use Rattle.ppddl_reader.specs.declared.name.Name.{Name}
 use Rattle.ppddl_reader.specs.Words.{has_slash}
-use Rattle.token_cursor.specs.Sequences.{in_group, group_with, one_then, last, giving, located, keyword}
-use Rattle.ppddl_reader.specs.Grammar.{name, flag, amount_by, amount, probability_by, probability, declares, atom_of, predicate_name, atom_in, atom, condition_in, condition_of, reward, cost, chance, effect_of, new_name, listed, predicate, has_action, action, flags, predicates_section, first_flag, first_behind, first_section, domain_of, domain_with, declarations, domain_behind, domain_sections, heading, domain, known_name, domain_section, facts, init_section, goal_section, reward_section, metric_value, metric, metric_and_end, problem_end, problem_sections, problem, task_of_parts, thin_text}
+use Rattle.token_cursor.specs.Sequences.{of_word, word_or_group, checking, refused_if, optional, each, adding, in_group, group_with, one_then, last, giving, located, keyword}
+use Rattle.ppddl_reader.specs.Grammar.{name, flag, amount_by, amount, probability_by, probability, checked, declares, declared_name, atom_of, atom_in, atom, condition_of, reward, cost, chance, effect_of, new_name, limited, listed, predicate, has_action, action, flags, predicates_section, first_flag, first_behind, first_section, domain_of, domain_with, declarations, domain_behind, domain_sections, heading, domain, known_name, domain_section, fact, init_section, goal_section, reward_section, metric_value, metric, metric_and_end, problem_end, problem_sections, problem, task_of_parts, thin_text}
 use Rattle.ppddl_reader.specs.Derivation as by
 use Rattle.ppddl_reader.specs.Derivation.{headed, Each, IsName, IsFlag, IsAmount, IsProbability, Declares, IsAtom, IsCondition, IsReward, IsCost, IsChance, IsEffect, IsPredicate, ArePredicateNames, IsPredicates, IsRequirements, IsAction, AreActions, AreDomainSections, IsHeading, IsDomain, IsDomainSection, IsFact, IsInit, IsGoal, IsGoalReward, IsMetricValue, IsMetric, AreMetrics, IsProblem, IsThinText}
 use Rattle.ppddl_reader.specs.Laws.{AcceptedIsDerived}
 
 -- ---- readings that gave a value
-
-bind_case : {A B : Type 0} (r : Result A Fault) (f : A → Result B Fault) (y : B) → (r >>= f) ≡ Ok y → (x : A) × (r ≡ Ok x) × (f x ≡ Ok y)
-bind_case (Ok x) f y is = (x, refl, is)
-bind_case (Err e) f y is = absurd cc
-
-test_passes : {A : Type 0} (t : Bool) (x : A) (e : Fault) (y : A) → cond t (Ok x) (Err e) ≡ Ok y → (t ≡ true) × (x ≡ y)
-test_passes true x e y is = (refl, cc)
-test_passes false x e y is = absurd cc
-
-pub test_fails : {A E : Type 0} (t : Bool) (e : E) (r : Result A E) (y : A) → cond t (Err e) r ≡ Ok y → (t ≡ false) × (r ≡ Ok y)
-test_fails true e r y is = absurd cc
-test_fails false e r y is = (refl, is)
 
 group_case : {A : Type 0} {read : Forms → Place → Result A Fault} (Spells : Form → A → Type 0)
     → ((a b : Place) (fs : Forms) (x : A) → read fs b ≡ Ok x → Spells (group a fs b) x)
@@ -64,7 +53,7 @@ then_case : {A B : Type 0} {first : Form → Result A Fault} (others : A → For
     → (fs : Forms) (y : B) → one_then first others fs b ≡ Ok y → Spell fs y
 unfolding one_then
 then_case others b Spell each none y is = absurd cc
-then_case {first} others b Spell each (more f fs) y is = let s = bind_case (first f) (λ x. others x fs b) y is in each f s.0 s.1 fs y s.2
+then_case {first} others b Spell each (more f fs) y is = let s = bind_ok (first f) (λ x. others x fs b) y is in each f s.0 s.1 fs y s.2
 
 last_case : {A : Type 0} (x : A) (b : Place) (Spell : Forms → A → Type 0) → Spell none x → (fs : Forms) (y : A) → last x fs b ≡ Ok y → Spell fs y
 unfolding last
@@ -75,9 +64,15 @@ giving_case : {A B : Type 0} (g : A → B) (read : Forms → Place → Result A 
     → ((fs : Forms) (x : A) → read fs b ≡ Ok x → Spell fs (g x)) → (fs : Forms) (y : B) → giving g read fs b ≡ Ok y → Spell fs y
 unfolding giving
 giving_case g read b Spell each fs y is =
-    let s = bind_case (read fs b) (λ x. Ok (g x)) y is in
+    let s = bind_ok (read fs b) (λ x. Ok (g x)) y is in
     let e : g s.0 ≡ y = cc s.2 in
     subst (Spell fs) e (each fs s.0 s.1)
+
+optional_case : {A : Type 0} (x : A) (read : Forms → Place → Result A Fault) (b : Place) (Spell : Forms → A → Type 0)
+    → Spell none x → ((fs : Forms) (y : A) → read fs b ≡ Ok y → Spell fs y) → (fs : Forms) (y : A) → optional x read fs b ≡ Ok y → Spell fs y
+unfolding optional
+optional_case x read b Spell at each none y is = let e : x ≡ y = cc in subst (Spell none) e at
+optional_case x read b Spell at each (more f fs) y is = each (more f fs) y is
 
 pub same_word : (v w : List ℕ) → same v w ≡ true → v ≡ w
 same_word v w is = (bytes_decides v w).0 is
@@ -93,7 +88,7 @@ word_case : {A : Type 0} (w : List ℕ) (others : Forms → Place → Result A F
 unfolding one_then
 word_case w others b Spell each none y is = absurd cc
 word_case w others b Spell each (more f fs) y is =
-    let s = bind_case (keyword w f) (λ u. others fs b) y is in
+    let s = bind_ok (keyword w f) (λ u. others fs b) y is in
     keyword_case w (λ g. Spell (more g fs) y) (λ d. each d fs y s.2) f s.0 s.1
 
 headed_case : {A : Type 0} (w : List ℕ) {others : Forms → Place → Result A Fault} (Spells : Form → A → Type 0)
@@ -106,12 +101,12 @@ headed_case w {others} Spells each (group a fs b) x is = word_case w others b (�
 -- ---- words
 
 name_derived : (f : Form) (n : Name) → name f ≡ Ok n → IsName f n
-unfolding name
+unfolding name of_word
 name_derived (lone w a) n is = let t = test_passes (is_name w) _ _ n is in subst (IsName (lone w a)) t.1 (by.name t.0)
 name_derived (group a fs b) n is = absurd cc
 
 flag_derived : (f : Form) (u : Unit {0}) → flag f ≡ Ok u → IsFlag f u
-unfolding flag
+unfolding flag of_word
 flag_derived (lone w a) u is = by.flag (test_passes (is_flag w) tt _ u is).0
 flag_derived (group a fs b) u is = absurd cc
 
@@ -120,7 +115,7 @@ amount_ok a (Ok m) n is = let t = test_fails (m == 0) _ (Ok m) n is in let e : m
 amount_ok a (Err e) n is = absurd cc
 
 amount_derived : (most : ℕ) (f : Form) (n : ℕ) → amount most f ≡ Ok n → IsAmount most f n
-unfolding amount
+unfolding amount of_word
 amount_derived most (lone w a) n is = let t = amount_ok a (amount_of w most) n is in by.amount t.0 t.1
 amount_derived most (group a fs b) n is = absurd cc
 
@@ -129,7 +124,7 @@ probability_ok a (Ok q) p is = let e : q ≡ p = cc in ap (λ (x : Fraction). Ok
 probability_ok a (Err e) p is = absurd cc
 
 probability_derived : (f : Form) (p : Fraction) → probability f ≡ Ok p → IsProbability f p
-unfolding probability
+unfolding probability of_word
 probability_derived (lone w a) p is = let t = test_fails (has_slash w) _ (probability_by a (probability_of w)) p is in by.probability t.0 (probability_ok a (probability_of w) p t.1)
 probability_derived (group a fs b) p is = absurd cc
 
@@ -138,35 +133,33 @@ probability_derived (group a fs b) p is = absurd cc
 declared : (ps : List PredicateDecl) (w : List ℕ) → declares ps w ≡ true → Declares ps w
 declared ps w is = let m = Any-from_list_any (λ (p : PredicateDecl). same p.name w) ps is in (m.0, m.1, m.2, m.3, same_word m.1.name w m.4)
 
-predicate_name_derived : (ps : List PredicateDecl) (f : Form) (x : Atom) → predicate_name ps f ≡ Ok x → (a b : Place) → IsAtom ps (group a (more f none) b) x
-unfolding predicate_name
-predicate_name_derived ps f x is a b =
-    let s = bind_case (name f) (atom_of ps) x is in
-    let t = test_passes (declares ps s.0.text) _ _ x s.2 in
-    subst (IsAtom ps (group a (more f none) b)) t.1 (by.atom (name_derived f s.0 s.1) (declared ps s.0.text t.0))
+declared_name_derived : (ps : List PredicateDecl) (f : Form) (n : Name) → declared_name ps f ≡ Ok n → IsName f n × Declares ps n.text
+unfolding declared_name checking
+declared_name_derived ps f n is =
+    let s = bind_ok (name f) (λ m. checked (declares ps m.text) UnknownName m) n is in
+    let t = test_passes (declares ps s.0.text) s.0 _ n s.2 in
+    (subst (IsName f) t.1 (name_derived f s.0 s.1), subst (λ (m : Name). Declares ps m.text) t.1 (declared ps s.0.text t.0))
 
 atom_in_derived : (ps : List PredicateDecl) (a b : Place) (fs : Forms) (x : Atom) → atom_in ps fs b ≡ Ok x → IsAtom ps (group a fs b) x
 unfolding atom_in
-atom_in_derived ps a b = then_case _ b (λ gs y. IsAtom ps (group a gs b) y) (λ f x is. last_case x b (λ gs y. IsAtom ps (group a (more f gs) b) y) (predicate_name_derived ps f x is a b))
+atom_in_derived ps a b = then_case _ b (λ gs y. IsAtom ps (group a gs b) y) (λ f n is.
+    let d = declared_name_derived ps f n is in
+    last_case (atom_of n) b (λ gs y. IsAtom ps (group a (more f gs) b) y) (by.atom d.0 d.1))
 
 atom_derived : (ps : List PredicateDecl) (f : Form) (x : Atom) → atom ps f ≡ Ok x → IsAtom ps f x
 unfolding atom
 atom_derived ps = group_case (IsAtom ps) (atom_in_derived ps)
 
-condition_in_derived : (ps : List PredicateDecl) (a b : Place) (fs : Forms) (c : Condition) → condition_in ps fs b ≡ Ok c → IsCondition ps (group a fs b) c
-condition_in_derived ps a b none c is = let e : condition.All [] ≡ c = cc in subst (IsCondition ps (group a none b)) e by.truth
-condition_in_derived ps a b (more f fs) c is =
-    giving_case (λ x. condition.Atom x) (atom_in ps) b (λ gs y. IsCondition ps (group a gs b) y) (λ gs x is. by.atomic (atom_in_derived ps a b gs x is)) (more f fs) c is
-
 condition_derived : (ps : List PredicateDecl) (f : Form) (c : Condition) → condition_of ps f ≡ Ok c → IsCondition ps f c
 unfolding condition_of
-condition_derived ps = group_case (IsCondition ps) (condition_in_derived ps)
+condition_derived ps = group_case (IsCondition ps) (λ a b. optional_case _ _ b (λ gs c. IsCondition ps (group a gs b) c) by.truth
+    (giving_case (λ x. condition.Atom x) (atom_in ps) b (λ gs c. IsCondition ps (group a gs b) c) (λ gs x is. by.atomic (atom_in_derived ps a b gs x is))))
 
 -- ---- effects
 
 reward_derived : (f : Form) (u : Unit {0}) → reward f ≡ Ok u → IsReward f
 unfolding reward
-reward_derived = headed_case _ (λ f u. IsReward f) (λ a d b. last_case tt b (λ gs u. IsReward (headed a d (codes "reward") gs b)) by.reward)
+reward_derived = headed_case _ (λ f u. IsReward f) (λ a d b. last_case tt b (λ gs u. IsReward (headed a d REWARD.now gs b)) by.reward)
 
 cost_derived : (f : Form) (e : Effect) → cost f ≡ Ok e → IsCost f e
 unfolding cost
@@ -190,29 +183,40 @@ apart_from_untaken {A} name_of seen w none_is k d lt is =
 front_again : {A : Type 0} (seen : List A) (x : A) (done all : List A) → (seen ++ x ∷ []) ++ done ≡ all → seen ++ x ∷ done ≡ all
 front_again seen x done all is = sym (append_assoc seen (x ∷ []) done) ∙ is
 
+not_true : (t : Bool) → not t ≡ true → t ≡ false
+not_true true is = absurd cc
+not_true false is = refl
+
 new_name_derived : (taken : List ℕ → Bool) (f : Form) (n : Name) → new_name taken f ≡ Ok n → IsName f n × (taken n.text ≡ false)
-unfolding new_name
+unfolding new_name checking
 new_name_derived taken f n is =
-    let s = bind_case (name f) _ n is in
-    let t = test_fails (taken s.0.text) _ (Ok s.0) n s.2 in
-    let e : s.0 ≡ n = cc t.1 in
-    (name_derived f n (s.1 ∙ t.1), subst (λ (m : Name). taken m.text ≡ false) e t.0)
+    let s = bind_ok (name f) (λ m. checked (not (taken m.text)) Twice m) n is in
+    let t = test_passes (not (taken s.0.text)) s.0 _ n s.2 in
+    (subst (IsName f) t.1 (name_derived f s.0 s.1), subst (λ (m : Name). taken m.text ≡ false) t.1 (not_true (taken s.0.text) t.0))
+
+-- one more element behind those seen
+added : {A : Type 0} (one : List A → Form → Result A Fault) (seen : List A) (f : Form) (all : List A) → adding one seen f ≡ Ok all → (x : A) × (one seen f ≡ Ok x) × (seen ++ x ∷ [] ≡ all)
+unfolding adding checking
+added {A} one seen f all is = let s = bind_ok (one seen f) (λ x. Ok (seen ++ x ∷ [])) all is in (s.0, s.1, ok_is {E = Fault} (seen ++ s.0 ∷ []) all s.2)
 
 module _ {A : Type 0} (one : List A → Form → Result A Fault) (Spells : Form → A → Type 0) (Apart : A → A → Type 0)
-    (each : (seen : List A) (f : Form) (x : A) → one seen f ≡ Ok x → Spells f x × All (λ y. Apart y x) seen) where
+    (spells : (seen : List A) (f : Form) (x : A) → one seen f ≡ Ok x → Spells f x × All (λ y. Apart y x) seen) where
   -- what was declared behind those seen
   listed_behind : (fs : Forms) (b : Place) (seen all : List A) → length seen ≤ 64 → AllPairs Apart seen → listed one seen fs b ≡ Ok all
       → (done : List A) × (seen ++ done ≡ all) × Each Spells fs done × (length all ≤ 64) × AllPairs Apart all
+  unfolding each limited refused_if
   listed_behind none b seen all few apart is =
       let e : seen ≡ all = cc in
       ([], append-nil seen ∙ e, by.no_form, subst (λ (xs : List A). length xs ≤ 64) e few, subst (AllPairs Apart) e apart)
   listed_behind (more f fs) b seen all few apart is =
-      let t = test_fails (length seen == 64) _ (one seen f >>= λ x. listed one (seen ++ x ∷ []) fs b) all is in
-      let s = bind_case (one seen f) (λ x. listed one (seen ++ x ∷ []) fs b) all t.1 in
-      let x = s.0 in
-      let e = each seen f x s.1 in
+      let s = bind_ok (adding (limited one) seen f) (λ t. listed one t fs b) all is in
+      let m = added (limited one) seen f s.0 s.1 in
+      let t = test_fails (length seen == 64) _ (one seen f) m.0 m.1 in
+      let x = m.0 in
+      let e = spells seen f x t.1 in
       let more_few : length (seen ++ x ∷ []) ≤ 64 = omega (arith, few, eqb-false (length seen) 64 t.0, length-append seen (x ∷ [])) in
-      let r = listed_behind fs b (seen ++ x ∷ []) all more_few (all_pairs_push Apart seen x apart e.1) s.2 in
+      let others = subst (λ (xs : List A). listed one xs fs b ≡ Ok all) (sym m.2) s.2 in
+      let r = listed_behind fs b (seen ++ x ∷ []) all more_few (all_pairs_push Apart seen x apart e.1) others in
       (x ∷ r.0, front_again seen x r.0 all r.1, by.one_more {xs = r.0} e.0 r.2, r.3, r.4)
 
   listed_derived : (fs : Forms) (b : Place) (all : List A) → listed one [] fs b ≡ Ok all → Each Spells fs all × (length all ≤ 64) × AllPairs Apart all
@@ -234,12 +238,17 @@ action_derived ps seen = headed_case _ _ (λ a d b. then_case _ _ _ (λ f n name
     let k = new_name_derived (has_action seen) f n names in
     last_case _ _ _ (by.action k.0 (effect_derived ps g e effects), apart_from_untaken (λ (y : Action). y.name) seen n.text k.1)))))
 
-flags_derived : (fs : Forms) (b : Place) (u : Unit {0}) → flags fs b ≡ Ok u → (us : List (Unit {0})) × Each IsFlag fs us
-flags_derived none b u is = ([], by.no_form)
-flags_derived (more f fs) b u is =
-    let s = bind_case (flag f) (λ v. flags fs b) u is in
-    let r = flags_derived fs b u s.2 in
+flags_behind : (v : Unit {0}) (fs : Forms) (b : Place) (u : Unit {0}) → each (λ w. flag) v fs b ≡ Ok u → (us : List (Unit {0})) × Each IsFlag fs us
+unfolding each
+flags_behind v none b u is = ([], by.no_form)
+flags_behind v (more f fs) b u is =
+    let s = bind_ok (flag f) (λ w. each (λ x. flag) w fs b) u is in
+    let r = flags_behind s.0 fs b u s.2 in
     (s.0 ∷ r.0, by.one_more (flag_derived f s.0 s.1) r.1)
+
+flags_derived : (fs : Forms) (b : Place) (u : Unit {0}) → flags fs b ≡ Ok u → (us : List (Unit {0})) × Each IsFlag fs us
+unfolding flags
+flags_derived = flags_behind tt
 
 predicates_derived : (f : Form) (ps : List PredicateDecl) → predicates_section f ≡ Ok ps → IsPredicates f ps
 unfolding predicates_section
@@ -253,19 +262,19 @@ actions_derived ps fs b done is =
     record { each = r.0; few = r.1; names = r.2 }
 
 -- the word of a first section
-first_word_case : (P : Form → FirstSection → Type 0) → ((d : Place) → P (lone (codes ":requirements") d) first.Requirements) → ((d : Place) → P (lone (codes ":predicates") d) first.Predicates)
+first_word_case : (P : Form → FirstSection → Type 0) → ((d : Place) → P (lone REQUIREMENTS_FLAG.now d) first.Requirements) → ((d : Place) → P (lone PREDICATES_FLAG.now d) first.Predicates)
     → (f : Form) (k : FirstSection) → first_flag f ≡ Ok k → P f k
-unfolding first_flag keyword
-first_word_case P requires predicates (lone w a) k is = by_test (same w (codes ":requirements")) refl is
+unfolding first_flag of_word
+first_word_case P requires predicates (lone w a) k is = by_test (same w REQUIREMENTS_FLAG.now) refl is
   where
-    by_test : (t : Bool) → same w (codes ":requirements") ≡ t → cond t (Ok first.Requirements) (keyword (codes ":predicates") (lone w a) >>= λ u. Ok first.Predicates) ≡ Ok k → P (lone w a) k
+    by_test : (t : Bool) → same w REQUIREMENTS_FLAG.now ≡ t
+        → cond t (Ok first.Requirements) (cond (same w PREDICATES_FLAG.now) (Ok first.Predicates) (fails Expected a)) ≡ Ok k → P (lone w a) k
     by_test true test is =
         let e : first.Requirements ≡ k = cc is in
-        subst (P (lone w a)) e (subst (λ (v : List ℕ). P (lone v a) first.Requirements) (sym (same_word w (codes ":requirements") test)) (requires a))
+        subst (P (lone w a)) e (subst (λ (v : List ℕ). P (lone v a) first.Requirements) (sym (same_word w REQUIREMENTS_FLAG.now test)) (requires a))
     by_test false test is =
-        let s = bind_case (keyword (codes ":predicates") (lone w a)) (λ u. Ok first.Predicates) k is in
-        let e : first.Predicates ≡ k = cc s.2 in
-        subst (P (lone w a)) e (keyword_case (codes ":predicates") (λ f. P f first.Predicates) predicates (lone w a) s.0 s.1)
+        let t = test_passes (same w PREDICATES_FLAG.now) first.Predicates _ k is in
+        subst (P (lone w a)) t.1 (subst (λ (v : List ℕ). P (lone v a) first.Predicates) (sym (same_word w PREDICATES_FLAG.now t.0)) (predicates a))
 first_word_case P requires predicates (group a fs b) k is = absurd cc
 
 abbrev IsFirstSection : Form → Option (List PredicateDecl) → Type 0
@@ -274,8 +283,8 @@ IsFirstSection f None = IsRequirements f
 
 first_behind_derived : (a b : Place) (f : Form) (k : FirstSection) → first_flag f ≡ Ok k → (fs : Forms) (o : Option (List PredicateDecl)) → first_behind k fs b ≡ Ok o → IsFirstSection (group a (more f fs) b) o
 first_behind_derived a b = first_word_case (λ f k. (fs : Forms) (o : Option (List PredicateDecl)) → first_behind k fs b ≡ Ok o → IsFirstSection (group a (more f fs) b) o)
-    (λ d. giving_case (λ u. None) flags b (λ fs o. IsFirstSection (headed a d (codes ":requirements") fs b) o) (λ fs u is. by.requirements (flags_derived fs b u is).1))
-    (λ d. giving_case (λ ps. Some ps) (listed predicate []) b (λ fs o. IsFirstSection (headed a d (codes ":predicates") fs b) o) (λ fs ps is.
+    (λ d. giving_case (λ u. None) flags b (λ fs o. IsFirstSection (headed a d REQUIREMENTS_FLAG.now fs b) o) (λ fs u is. by.requirements (flags_derived fs b u is).1))
+    (λ d. giving_case (λ ps. Some ps) (listed predicate []) b (λ fs o. IsFirstSection (headed a d PREDICATES_FLAG.now fs b) o) (λ fs ps is.
     let r = listed_derived predicate IsPredicate (λ (p q : PredicateDecl). p.name ≢ q.name) predicate_derived fs b ps is in
     by.predicates r.0 r.1 r.2))
 
@@ -306,29 +315,39 @@ heading_derived kind = headed_case _ _ (λ a d b. then_case _ _ _ (λ f n names.
 
 domain_derived : (f : Form) (x : Domain) → domain f ≡ Ok x → IsDomain f x
 unfolding domain
-domain_derived = headed_case _ _ (λ a d b. then_case _ _ _ (λ f n names fs x is. by.domain (heading_derived (codes "domain") f n names) (domain_sections_derived n fs b x is)))
+domain_derived = headed_case _ _ (λ a d b. then_case _ _ _ (λ f n names fs x is. by.domain (heading_derived DOMAIN.now f n names) (domain_sections_derived n fs b x is)))
 
 -- ---- the problem
 
-known_name_derived : (known : List ℕ) (f : Form) (u : Unit {0}) → known_name known f ≡ Ok u → (n : Name) × IsName f n × (n.text ≡ known)
-unfolding known_name
-known_name_derived known f u is =
-    let s = bind_case (name f) _ u is in
-    (s.0, name_derived f s.0 s.1, same_word s.0.text known (test_passes (same s.0.text known) tt _ u s.2).0)
+known_name_derived : (known : List ℕ) (f : Form) (n : Name) → known_name known f ≡ Ok n → IsName f n × (n.text ≡ known)
+unfolding known_name checking
+known_name_derived known f n is =
+    let s = bind_ok (name f) (λ m. checked (same m.text known) DomainName m) n is in
+    let t = test_passes (same s.0.text known) s.0 _ n s.2 in
+    (subst (IsName f) t.1 (name_derived f s.0 s.1), subst (λ (m : Name). m.text ≡ known) t.1 (same_word s.0.text known t.0))
 
 domain_section_derived : (known : List ℕ) (f : Form) (u : Unit {0}) → domain_section known f ≡ Ok u → IsDomainSection known f
 unfolding domain_section
-domain_section_derived known = headed_case _ (λ f u. IsDomainSection known f) (λ a d b. then_case _ _ _ (λ f v names.
-    let k = known_name_derived known f v names in
-    last_case _ _ (λ gs u. IsDomainSection known (headed a d (codes ":domain") (more f gs) b)) (by.domain_section k.1 k.2)))
+domain_section_derived known = headed_case _ (λ f u. IsDomainSection known f) (λ a d b. then_case _ _ _ (λ f n names.
+    let k = known_name_derived known f n names in
+    last_case _ _ (λ gs u. IsDomainSection known (headed a d DOMAIN_FLAG.now (more f gs) b)) (by.domain_section k.0 k.1)))
 
-facts_behind : (ps : List PredicateDecl) (seen : List InitItem) (fs : Forms) (b : Place) (all : List InitItem) → facts ps seen fs b ≡ Ok all
+fact_derived : (ps : List PredicateDecl) (f : Form) (i : InitItem) → fact ps f ≡ Ok i → IsFact ps f i
+unfolding fact checking
+fact_derived ps f i is =
+    let s = bind_ok (atom ps f) (λ x. Ok (item.Fact x)) i is in
+    subst (IsFact ps f) (ok_is {E = Fault} (item.Fact s.0) i s.2) (by.fact (atom_derived ps f s.0 s.1))
+
+facts_behind : (ps : List PredicateDecl) (seen : List InitItem) (fs : Forms) (b : Place) (all : List InitItem) → each (adding (λ _. fact ps)) seen fs b ≡ Ok all
     → (done : List InitItem) × (seen ++ done ≡ all) × Each (IsFact ps) fs done
+unfolding each
 facts_behind ps seen none b all is = let e : seen ≡ all = cc in ([], append-nil seen ∙ e, by.no_form)
 facts_behind ps seen (more f fs) b all is =
-    let s = bind_case (atom ps f) (λ x. facts ps (seen ++ item.Fact x ∷ []) fs b) all is in
-    let r = facts_behind ps (seen ++ item.Fact s.0 ∷ []) fs b all s.2 in
-    (item.Fact s.0 ∷ r.0, front_again seen (item.Fact s.0) r.0 all r.1, by.one_more (by.fact (atom_derived ps f s.0 s.1)) r.2)
+    let s = bind_ok (adding (λ _. fact ps) seen f) (λ t. each (adding (λ _. fact ps)) t fs b) all is in
+    let m = added (λ _. fact ps) seen f s.0 s.1 in
+    let others = subst (λ (xs : List InitItem). each (adding (λ _. fact ps)) xs fs b ≡ Ok all) (sym m.2) s.2 in
+    let r = facts_behind ps (seen ++ m.0 ∷ []) fs b all others in
+    (m.0 ∷ r.0, front_again seen m.0 r.0 all r.1, by.one_more (fact_derived ps f m.0 m.1) r.2)
 
 init_derived : (ps : List PredicateDecl) (f : Form) (items : List InitItem) → init_section ps f ≡ Ok items → IsInit ps f items
 unfolding init_section
@@ -343,32 +362,32 @@ unfolding reward_section
 goal_reward_derived = headed_case _ _ (λ a d b. then_case _ _ _ (λ f r is. last_case _ _ _ (by.goal_reward (amount_derived (10 ^ 14) f r is))))
 
 metric_value_derived : (f : Form) (u : Unit {0}) → metric_value f ≡ Ok u → IsMetricValue f
-unfolding metric_value
-metric_value_derived (lone w a) u is = subst (λ (v : List ℕ). IsMetricValue (lone v a)) (sym (same_word w (codes "reward") (test_passes (same w (codes "reward")) tt _ u is).0)) by.bare
+unfolding metric_value word_or_group
+metric_value_derived (lone w a) u is = subst (λ (v : List ℕ). IsMetricValue (lone v a)) (sym (same_word w REWARD.now (test_passes (same w REWARD.now) tt _ u is).0)) by.bare
 metric_value_derived (group a fs b) u is = by.grouped (reward_derived (group a fs b) u is)
 
 metric_derived : (f : Form) (u : Unit {0}) → metric f ≡ Ok u → IsMetric f
 unfolding metric
 metric_derived = headed_case _ (λ f u. IsMetric f) (λ a d b. word_case _ _ _ _ (λ c. then_case _ _ _ (λ f u is.
-    last_case _ _ (λ gs v. IsMetric (headed a d (codes ":metric") (more (lone (codes "maximize") c) (more f gs)) b)) (by.metric (metric_value_derived f u is)))))
+    last_case _ _ (λ gs v. IsMetric (headed a d METRIC_FLAG.now (more (lone MAXIMIZE.now c) (more f gs)) b)) (by.metric (metric_value_derived f u is)))))
 
 metrics_derived : (fs : Forms) (b : Place) (u : Unit {0}) → metric_and_end fs b ≡ Ok u → AreMetrics fs
-metrics_derived none b u is = by.no_metric
-metrics_derived (more f none) b u is = by.one_metric (metric_derived f _ (bind_case (metric f) _ u is).1)
-metrics_derived (more f (more g fs)) b u is = absurd (cc (bind_case (metric f) _ u is).2)
+unfolding metric_and_end
+metrics_derived fs b = optional_case tt _ b (λ gs u. AreMetrics gs) by.no_metric
+    (then_case last b (λ gs u. AreMetrics gs) (λ f u is. last_case u b (λ gs v. AreMetrics (more f gs)) (by.one_metric (metric_derived f u is)))) fs
 
 problem_derived : (x : Domain) (f : Form) (p : Problem) → problem x f ≡ Ok p → IsProblem x f p
 unfolding problem problem_sections problem_end
 problem_derived x = headed_case _ _ (λ a d b. then_case _ _ _ (λ f n names. then_case _ _ _ (λ g u domains. then_case _ _ _ (λ h items inits. then_case _ _ _ (λ i c goals. then_case _ _ _ (λ j r rewards.
     giving_case _ metric_and_end b _ (λ fs v is.
-    by.problem (heading_derived (codes "problem") f n names) (domain_section_derived x.name g u domains) (init_derived x.predicates h items inits) (goal_derived x.predicates i c goals) (goal_reward_derived j r rewards) (metrics_derived fs b v is))))))))
+    by.problem (heading_derived PROBLEM.now f n names) (domain_section_derived x.name g u domains) (init_derived x.predicates h items inits) (goal_derived x.predicates i c goals) (goal_reward_derived j r rewards) (metrics_derived fs b v is))))))))
 
 -- ---- the text
 
 located_domain : (f : Form) (x : Domain × Place) → located domain f ≡ Ok x → IsDomain f x.0 × (x.1 ≡ begin_of f)
 unfolding located
 located_domain f x is =
-    let s = bind_case (domain f) _ x is in
+    let s = bind_ok (domain f) _ x is in
     let e : (s.0, begin_of f) ≡ x = cc s.2 in
     (domain_derived f x.0 (s.1 ∙ ap (λ (y : Domain × Place). Ok y.0) e), sym (ap (λ (y : Domain × Place). y.1) e))
 

@@ -1,6 +1,6 @@
 pub mod Accepted
-pub mod Choices
 pub mod Derived
 pub mod Proper
 pub mod Thin
 pub mod Told
+pub mod Words

@@ -12,7 +12,6 @@ use Rattle.ppddl_model.specs.declared.tree.Action.{Action}
 use Rattle.ppddl_model.specs.declared.tree.Atom.{Atom}
 use Rattle.ppddl_model.specs.declared.tree.Effect.TheVariants as effect
 use Rattle.ppddl_model.specs.declared.tree.Effect.TheBlock.{hidden-the_row-Effect-0, hidden-the_row-Branch-2}
-use Rattle.ppddl_model.specs.declared.tree.InitItem.{InitItem}
 use Rattle.ppddl_model.specs.declared.tree.Task.{Task}
 use denote.Hole.Carrier.{hidden}
 use Rattle.ppddl_model.specs.Draws.{EachDraw, EachItemDraw}

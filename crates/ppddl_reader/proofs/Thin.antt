@@ -19,13 +19,14 @@ use Rattle.ppddl_model.specs.declared.tree.Problem.{Problem}
 use Rattle.ppddl_model.specs.declared.tree.Task.{Task}
 use Rattle.token_cursor.specs.declared.place.Place.{Place}
 use Rattle.token_cursor.specs.Forms.{Form, Forms, begin_of}
-use Rattle.ppddl_reader.specs.declared.words.Name.{Name}
+use Rattle.ppddl_reader.specs.declared.name.Name.{Name}
 use Rattle.ppddl_reader.specs.Grammar.{domain_of, task_of_parts, thin_text}
 use Rattle.ppddl_reader.specs.Derivation as by
 use Rattle.ppddl_reader.specs.Derivation.{Each, IsAmount, IsProbability, Declares, IsAtom, IsCondition, IsCost, IsChance, IsEffect, IsPredicate, IsPredicates, IsAction, AreActions, AreDomainSections, IsDomain, IsFact, IsInit, IsGoal, IsGoalReward, IsProblem, IsThinText}
 use Rattle.ppddl_reader.specs.Laws.{DerivedIsThin}
 use Rattle.ppddl_reader.specs.ThinTask.{IsDeclared, IsThinAction, IsThinTask}
-use Rattle.ppddl_reader.proofs.Accepted.{test_fails, accepted_is_derived}
+use Rattle.plain_list.proofs.Results.{test_fails}
+use Rattle.ppddl_reader.proofs.Accepted.{accepted_is_derived}
 
 -- ---- numbers
 

@@ -3,13 +3,13 @@ use Rattle.std.proofs.Common.{◌≡◌, ℕ, List, Some, Result, Ok, Err, ap}
 use Rattle.ppddl_lex.specs.declared.token.Token.{Token}
 use Rattle.ppddl_lex.specs.declared.refusal.LexRefusal.{LexRefusal}
 use Rattle.ppddl_lex.specs.declared.refusal.LexRefusal.TheVariants as lex
-use Rattle.ppddl_lex.specs.Lexemes.{tokens_of}
-use Rattle.ppddl_lex.specs.Lexemes as lexemes
+use Rattle.ppddl_lex.specs.Lexemes.{tokens_of, GivesTokens}
 use Rattle.ppddl_model.specs.declared.refusal.TextCode.TheVariants.{Expected}
 use Rattle.ppddl_model.specs.declared.refusal.TextRefusal.{TextRefusal}
 use Rattle.ppddl_model.specs.declared.refusal.TextRefusal.TheVariants.{Memory, At}
 use Rattle.ppddl_model.specs.declared.tree.Task.{Task}
 use Rattle.token_cursor.specs.declared.place.Place.{Place}
+use Rattle.token_cursor.specs.Forms.{lowered_forms}
 use Rattle.token_cursor.specs.Pieces.{text_ahead}
 use Rattle.token_cursor.specs.Ahead.{Ahead, top, inner}
 use Rattle.plain_list.specs.Results.{◌>>=◌}
@@ -24,7 +24,7 @@ told (Ok t) r is = ap accepted is
 told (Err Memory) r is = tt
 told (Err (At code file line)) r is = ap accepted is
 
-pub lex_told : (text : List ℕ) (e : LexRefusal) (r : Result (List Token) LexRefusal) → lexemes.Gives (Err e) r → Reads (Err (not_lexed e)) (task_of_tokens text r)
+pub lex_told : (text : List ℕ) (e : LexRefusal) (r : Result (List Token) LexRefusal) → GivesTokens (Err e) r → Reads (Err (not_lexed e)) (task_of_tokens text r)
 lex_told text lex.Memory r is = tt
 lex_told text (lex.BadByte line) r is = ap (task_of_tokens text) is
 lex_told text (lex.Unbalanced line) r is = ap (task_of_tokens text) is
@@ -40,8 +40,9 @@ accepted_value (Ok x) t is = cc
 accepted_value (Err e) t is = absurd cc
 
 accepted_thin : (h : Ahead) (t : Task) → accepted (all_at thin_text h) ≡ Some t → IsThinTask t
-accepted_thin (top fs e) t is = accepted_is_thin fs e t (accepted_value (thin_text fs e) t is)
-accepted_thin (inner fs b out) t is = absurd (no_end (thin_text fs b) b t is)
+unfolding all_at
+accepted_thin (top fs e) t is = accepted_is_thin (lowered_forms fs) e t (accepted_value (thin_text (lowered_forms fs) e) t is)
+accepted_thin (inner fs b out) t is = absurd (no_end (thin_text (lowered_forms fs) b) b t is)
 
 tokens_thin : (text : List ℕ) (r : Result (List Token) LexRefusal) (t : Task) → task_of_tokens text r ≡ Some t → IsThinTask t
 tokens_thin text (Ok ts) t is = accepted_thin (text_ahead text 1 ts) t is

@@ -5,9 +5,10 @@
 --     IsDomain f d            f spells the domain d
 --     IsProblem d f p         f spells the problem p of the domain d
 --     IsThinText fs t         the forms fs of a text spell the task t
-use Rattle.std.specs.Prelude.{◌≡◌, ◌≢◌, ℕ, ◌^◌, ◌≤◌, List, [], ◌∷◌, length, true, false, codes, Ok, Any, AllPairs}
+use Rattle.std.specs.Prelude.{◌≡◌, ◌≢◌, ℕ, ◌^◌, ◌≤◌, List, [], ◌∷◌, length, true, false, Ok, Any, AllPairs}
 use Rattle.exact_fraction.specs.declared.fraction.Fraction.{Fraction}
 use Rattle.exact_fraction.specs.Numbers.{amount_of, probability_of}
+use Rattle.ppddl_lex.specs.declared.keywords.TheConstants.{ACTION_FLAG, AND, DECREASE, DEFINE, DOMAIN, DOMAIN_FLAG, EFFECT_FLAG, GOAL_FLAG, GOAL_REWARD_FLAG, INIT_FLAG, MAXIMIZE, METRIC_FLAG, PREDICATES_FLAG, PROBABILISTIC, PROBLEM, REQUIREMENTS_FLAG, REWARD}
 use Rattle.ppddl_lex.specs.Words.{is_name, is_flag}
 use Rattle.ppddl_model.specs.declared.tree.Action.{Action}
 use Rattle.ppddl_model.specs.declared.tree.Atom.{Atom}
@@ -23,7 +24,7 @@ use Rattle.ppddl_model.specs.declared.tree.Problem.{Problem}
 use Rattle.ppddl_model.specs.declared.tree.Task.{Task}
 use Rattle.token_cursor.specs.declared.place.Place.{Place}
 use Rattle.token_cursor.specs.Forms.{Form, Forms, lone, group, none, more, begin_of}
-use Rattle.ppddl_reader.specs.declared.words.Name.{Name}
+use Rattle.ppddl_reader.specs.declared.name.Name.{Name}
 use Rattle.ppddl_reader.specs.Words.{has_slash}
 use Rattle.ppddl_reader.specs.Grammar.{chance_of, action_of, domain_of, problem_of, task_of_parts}
 
@@ -72,19 +73,19 @@ pub data IsCondition (ps : List PredicateDecl) : Form → Condition → Type 0 w
 -- ---- effects
 
 pub data IsReward : Form → Type 0 where
-  reward : {a d b : Place} → IsReward (headed a d (codes "reward") none b)
+  reward : {a d b : Place} → IsReward (headed a d REWARD.now none b)
 
 pub data IsCost : Form → Effect → Type 0 where
   cost : {a d b : Place} {f g : Form} {n : ℕ} → IsReward f → IsAmount (10 ^ 12) g n
-      → IsCost (headed a d (codes "decrease") (forms (f ∷ g ∷ [])) b) (effect.Cost n)
+      → IsCost (headed a d DECREASE.now (forms (f ∷ g ∷ [])) b) (effect.Cost n)
 
 pub data IsChance (ps : List PredicateDecl) : Form → Effect → Type 0 where
   chance : {a d b : Place} {f g : Form} {p : Fraction} {x : Atom} → IsProbability f p → IsAtom ps g x
-      → IsChance ps (headed a d (codes "probabilistic") (forms (f ∷ g ∷ [])) b) (chance_of p x)
+      → IsChance ps (headed a d PROBABILISTIC.now (forms (f ∷ g ∷ [])) b) (chance_of p x)
 
 pub data IsEffect (ps : List PredicateDecl) : Form → Effect → Type 0 where
   both : {a d b : Place} {f g : Form} {c e : Effect} → IsCost f c → IsChance ps g e
-      → IsEffect ps (headed a d (codes "and") (forms (f ∷ g ∷ [])) b) (effect.Both (c ∷ e ∷ []))
+      → IsEffect ps (headed a d AND.now (forms (f ∷ g ∷ [])) b) (effect.Both (c ∷ e ∷ []))
 
 -- ---- the domain
 
@@ -96,14 +97,14 @@ ArePredicateNames ps = AllPairs (λ p q. p.name ≢ q.name) ps
 
 pub data IsPredicates : Form → List PredicateDecl → Type 0 where
   predicates : {a d b : Place} {fs : Forms} {ps : List PredicateDecl} → Each IsPredicate fs ps → length ps ≤ 64 → ArePredicateNames ps
-      → IsPredicates (headed a d (codes ":predicates") fs b) ps
+      → IsPredicates (headed a d PREDICATES_FLAG.now fs b) ps
 
 pub data IsRequirements : Form → Type 0 where
-  requirements : {a d b : Place} {fs : Forms} {us : List (Unit {0})} → Each IsFlag fs us → IsRequirements (headed a d (codes ":requirements") fs b)
+  requirements : {a d b : Place} {fs : Forms} {us : List (Unit {0})} → Each IsFlag fs us → IsRequirements (headed a d REQUIREMENTS_FLAG.now fs b)
 
 pub data IsAction (ps : List PredicateDecl) : Form → Action → Type 0 where
   action : {a d c b : Place} {f g : Form} {n : Name} {e : Effect} → IsName f n → IsEffect ps g e
-      → IsAction ps (headed a d (codes ":action") (forms (f ∷ lone (codes ":effect") c ∷ g ∷ [])) b) (action_of n e)
+      → IsAction ps (headed a d ACTION_FLAG.now (forms (f ∷ lone EFFECT_FLAG.now c ∷ g ∷ [])) b) (action_of n e)
 
 pub record AreActions (ps : List PredicateDecl) (fs : Forms) (done : List Action) : Type 0 where
   pub each : Each (IsAction ps) fs done
@@ -122,33 +123,33 @@ pub data IsHeading (kind : List ℕ) : Form → Name → Type 0 where
   heading : {a d b : Place} {f : Form} {n : Name} → IsName f n → IsHeading kind (headed a d kind (forms (f ∷ [])) b) n
 
 pub data IsDomain : Form → Domain → Type 0 where
-  domain : {a d b : Place} {f : Form} {fs : Forms} {n : Name} {x : Domain} → IsHeading (codes "domain") f n → AreDomainSections n fs x
-      → IsDomain (headed a d (codes "define") (more f fs) b) x
+  domain : {a d b : Place} {f : Form} {fs : Forms} {n : Name} {x : Domain} → IsHeading DOMAIN.now f n → AreDomainSections n fs x
+      → IsDomain (headed a d DEFINE.now (more f fs) b) x
 
 -- ---- the problem
 
 pub data IsDomainSection (known : List ℕ) : Form → Type 0 where
-  domain_section : {a d b : Place} {f : Form} {n : Name} → IsName f n → n.text ≡ known → IsDomainSection known (headed a d (codes ":domain") (forms (f ∷ [])) b)
+  domain_section : {a d b : Place} {f : Form} {n : Name} → IsName f n → n.text ≡ known → IsDomainSection known (headed a d DOMAIN_FLAG.now (forms (f ∷ [])) b)
 
 pub data IsFact (ps : List PredicateDecl) : Form → InitItem → Type 0 where
   fact : {f : Form} {x : Atom} → IsAtom ps f x → IsFact ps f (item.Fact x)
 
 pub data IsInit (ps : List PredicateDecl) : Form → List InitItem → Type 0 where
-  init : {a d b : Place} {fs : Forms} {items : List InitItem} → Each (IsFact ps) fs items → IsInit ps (headed a d (codes ":init") fs b) items
+  init : {a d b : Place} {fs : Forms} {items : List InitItem} → Each (IsFact ps) fs items → IsInit ps (headed a d INIT_FLAG.now fs b) items
 
 pub data IsGoal (ps : List PredicateDecl) : Form → Condition → Type 0 where
-  goal : {a d b : Place} {f : Form} {x : Condition} → IsCondition ps f x → IsGoal ps (headed a d (codes ":goal") (forms (f ∷ [])) b) x
+  goal : {a d b : Place} {f : Form} {x : Condition} → IsCondition ps f x → IsGoal ps (headed a d GOAL_FLAG.now (forms (f ∷ [])) b) x
 
 pub data IsGoalReward : Form → ℕ → Type 0 where
-  goal_reward : {a d b : Place} {f : Form} {n : ℕ} → IsAmount (10 ^ 14) f n → IsGoalReward (headed a d (codes ":goal-reward") (forms (f ∷ [])) b) n
+  goal_reward : {a d b : Place} {f : Form} {n : ℕ} → IsAmount (10 ^ 14) f n → IsGoalReward (headed a d GOAL_REWARD_FLAG.now (forms (f ∷ [])) b) n
 
 -- `reward` or `( reward )`
 pub data IsMetricValue : Form → Type 0 where
-  bare : {a : Place} → IsMetricValue (lone (codes "reward") a)
+  bare : {a : Place} → IsMetricValue (lone REWARD.now a)
   grouped : {f : Form} → IsReward f → IsMetricValue f
 
 pub data IsMetric : Form → Type 0 where
-  metric : {a d c b : Place} {f : Form} → IsMetricValue f → IsMetric (headed a d (codes ":metric") (forms (lone (codes "maximize") c ∷ f ∷ [])) b)
+  metric : {a d c b : Place} {f : Form} → IsMetricValue f → IsMetric (headed a d METRIC_FLAG.now (forms (lone MAXIMIZE.now c ∷ f ∷ [])) b)
 
 -- the metric, which may be missing
 pub data AreMetrics : Forms → Type 0 where
@@ -157,8 +158,8 @@ pub data AreMetrics : Forms → Type 0 where
 
 pub data IsProblem (d : Domain) : Form → Problem → Type 0 where
   problem : {a c b : Place} {f g h i j : Form} {fs : Forms} {n : Name} {items : List InitItem} {x : Condition} {r : ℕ}
-      → IsHeading (codes "problem") f n → IsDomainSection d.name g → IsInit d.predicates h items → IsGoal d.predicates i x → IsGoalReward j r → AreMetrics fs
-      → IsProblem d (headed a c (codes "define") (more f (more g (more h (more i (more j fs))))) b) (problem_of n items x r)
+      → IsHeading PROBLEM.now f n → IsDomainSection d.name g → IsInit d.predicates h items → IsGoal d.predicates i x → IsGoalReward j r → AreMetrics fs
+      → IsProblem d (headed a c DEFINE.now (more f (more g (more h (more i (more j fs))))) b) (problem_of n items x r)
 
 -- ---- the text
 

@@ -1,21 +1,26 @@
-//! The domain of a thin text.
+//! The domain of a thin text. This goes when domains of the whole language are read.
 
-ghost use Rattle.std.specs.Prelude.{◌≡◌, ◌<◌, [], IfOk, OnOk};
+ghost use Rattle.std.specs.Prelude.{◌≡◌, ◌<◌, [], OnOk};
 ghost use Rattle.token_cursor.specs.Ahead.{size};
-ghost use Rattle.token_cursor.specs.Reading.{Gives, ReadsOne, ReadsRest};
-ghost use Rattle.ppddl_reader.specs.Grammar.{declares, listed, predicate, new_name, has_action, action_of, action, flags, predicates_section, first_flag, first_section, domain_with, declarations, domain_sections, heading, domain};
+ghost use Rattle.token_cursor.specs.Reading.{ReadsOne, ReadsRest};
+ghost use Rattle.ppddl_reader.specs.Grammar.{declares, limited, predicate, new_name};
+ghost use Rattle.ppddl_reader.specs.Grammar.{has_action, action_of, action, flag, flags};
+ghost use Rattle.ppddl_reader.specs.Grammar.{predicates_section, first_flag, first_section};
+ghost use Rattle.ppddl_reader.specs.Grammar.{domain_with, declarations, domain_sections, domain};
 
-use crate::forms::{declares, read_effect};
-use crate::words::{Name, read_flag, read_name};
+use crate::first_section::FirstSection;
+use crate::forms::{declares, read_effect, read_heading};
+use crate::name::{Name, read_name};
+use ppddl_lex::{is_flag, is_same_word, keywords};
 use ppddl_model::{Action, Condition, Domain, Effect, List, PredicateDecl, TextCode, TextRefusal};
 use std::alloc::Global;
-use token_cursor::Cursor;
+use token_cursor::{Cursor, ListReader, read_list};
 
 /// The most predicates, and the most actions, that a domain may declare.
 const MOST_DECLARED: usize = 64;
 
 /// Reads the name of a predicate that was not declared before.
-#[tactic(auto, using(token_cursor::proofs::GroupSteps::group_steps), unfolding(crate::specs::Grammar::new_name))]
+#[tactic(auto, using(token_cursor::proofs::Steps::reading_steps), unfolding(crate::specs::Grammar::new_name))]
 fn read_new_predicate(
     alloc: Global,
     cursor: &mut Cursor<'_>,
@@ -25,13 +30,12 @@ fn read_new_predicate(
     ensures fewer { OnOk result (size cursor.new < size cursor.old) }
 {
     let name = read_name(alloc, cursor)?;
-    if declares(seen, name.text.as_slice()) {
-        return Err(name.place.refusal(TextCode::Twice));
-    }
-    Ok(name)
+    let is_new = !declares(seen, name.text.as_slice());
+    name.checked(is_new, TextCode::Twice)
 }
 
 /// Reads `( NAME )` of a predicate that was not declared before.
+#[tactic(auto, using(token_cursor::proofs::Steps::reading_steps), unfolding(crate::specs::Grammar::predicate))]
 fn read_predicate(
     alloc: Global,
     cursor: &mut Cursor<'_>,
@@ -49,24 +53,27 @@ fn read_predicate(
     })
 }
 
-/// Reads the predicates up to the end of the group.
-fn read_predicates(
-    alloc: Global,
-    cursor: &mut Cursor<'_>,
-) -> Result<List<PredicateDecl>, TextRefusal>
-    ensures gives { ReadsRest (listed predicate []) cursor.old cursor.new result }
-    ensures fewer { OnOk result (size cursor.new < size cursor.old) }
-{
-    let mut seen: Vec<PredicateDecl> = Vec::new(alloc);
-    while cursor.has_form() {
-        if seen.len() == MOST_DECLARED {
+/// The predicates of a domain.
+#[derive(Clone, Copy)]
+struct Predicates;
+
+impl ListReader for Predicates {
+    type Item = PredicateDecl;
+
+    ghost item = { λ _. limited predicate };
+
+    #[tactic(auto, using(token_cursor::proofs::Steps::reading_steps), unfolding(crate::specs::Grammar::limited))]
+    fn read_item(
+        &self,
+        alloc: Global,
+        cursor: &mut Cursor<'_>,
+        seen: &[PredicateDecl],
+    ) -> Result<PredicateDecl, TextRefusal> {
+        if cursor.has_form() && seen.len() == MOST_DECLARED {
             return Err(cursor.refusal(TextCode::Unsupported));
         }
-        let predicate = read_predicate(alloc, cursor, seen.as_slice())?;
-        seen.push(predicate)?;
+        read_predicate(alloc, cursor, seen)
     }
-    cursor.close()?;
-    Ok(List::from_vec(seen))
 }
 
 /// Whether an action has this name.
@@ -90,7 +97,7 @@ fn action_of(alloc: Global, name: Name, effect: Effect) -> Action
 }
 
 /// Reads the name of an action that was not declared before.
-#[tactic(auto, using(token_cursor::proofs::GroupSteps::group_steps), unfolding(crate::specs::Grammar::new_name))]
+#[tactic(auto, using(token_cursor::proofs::Steps::reading_steps), unfolding(crate::specs::Grammar::new_name))]
 fn read_new_action(
     alloc: Global,
     cursor: &mut Cursor<'_>,
@@ -100,13 +107,12 @@ fn read_new_action(
     ensures fewer { OnOk result (size cursor.new < size cursor.old) }
 {
     let name = read_name(alloc, cursor)?;
-    if has_action(seen, name.text.as_slice()) {
-        return Err(name.place.refusal(TextCode::Twice));
-    }
-    Ok(name)
+    let is_new = !has_action(seen, name.text.as_slice());
+    name.checked(is_new, TextCode::Twice)
 }
 
 /// Reads `( :action NAME :effect EFFECT )` of an action that was not declared before.
+#[tactic(auto, using(token_cursor::proofs::Steps::reading_steps), unfolding(crate::specs::Grammar::action))]
 fn read_action(
     alloc: Global,
     cursor: &mut Cursor<'_>,
@@ -116,36 +122,54 @@ fn read_action(
     ensures gives { ReadsOne (action predicates.now seen.now) cursor.old cursor.new result }
     ensures fewer { OnOk result (size cursor.new < size cursor.old) }
 {
-    cursor.open_group(b":action")?;
+    cursor.open_group(keywords::ACTION_FLAG)?;
     let name = read_new_action(alloc, cursor, seen)?;
-    cursor.expect_keyword(b":effect")?;
+    cursor.expect_keyword(keywords::EFFECT_FLAG)?;
     let effect = read_effect(alloc, cursor, predicates)?;
     cursor.close()?;
     Ok(action_of(alloc, name, effect))
 }
 
-/// Reads the actions up to the end of the group.
-fn read_actions(
-    alloc: Global,
-    cursor: &mut Cursor<'_>,
-    predicates: &[PredicateDecl],
-) -> Result<List<Action>, TextRefusal>
-    ensures gives { ReadsRest (listed (action predicates.now) []) cursor.old cursor.new result }
-    ensures fewer { OnOk result (size cursor.new < size cursor.old) }
-{
-    let mut seen: Vec<Action> = Vec::new(alloc);
-    while cursor.has_form() {
-        if seen.len() == MOST_DECLARED {
+/// The actions of a domain with these predicates.
+#[derive(Clone, Copy)]
+struct Actions<'a> {
+    predicates: &'a [PredicateDecl],
+}
+
+impl<'a> ListReader for Actions<'a> {
+    type Item = Action;
+
+    ghost item = { λ actions. limited (action actions.predicates.now) };
+
+    #[tactic(auto, using(token_cursor::proofs::Steps::reading_steps), unfolding(crate::specs::Grammar::limited))]
+    fn read_item(
+        &self,
+        alloc: Global,
+        cursor: &mut Cursor<'_>,
+        seen: &[Action],
+    ) -> Result<Action, TextRefusal> {
+        if cursor.has_form() && seen.len() == MOST_DECLARED {
             return Err(cursor.refusal(TextCode::Unsupported));
         }
-        let action = read_action(alloc, cursor, predicates, seen.as_slice())?;
-        seen.push(action)?;
+        read_action(alloc, cursor, self.predicates, seen)
     }
-    cursor.close()?;
-    Ok(List::from_vec(seen))
+}
+
+/// Goes past a flag.
+#[tactic(auto, using(token_cursor::proofs::Steps::reading_steps), unfolding(crate::specs::Grammar::flag))]
+fn read_flag(cursor: &mut Cursor<'_>) -> Result<(), TextRefusal>
+    ensures gives { ReadsOne flag cursor.old cursor.new result }
+    ensures fewer { OnOk result (size cursor.new < size cursor.old) }
+{
+    if !is_flag(cursor.word_ahead()?) {
+        return Err(cursor.refusal(TextCode::Expected));
+    }
+    cursor.advance();
+    Ok(())
 }
 
 /// Goes past the flags up to the end of the group.
+#[tactic(auto, using(token_cursor::proofs::Steps::reading_steps), unfolding(crate::specs::Grammar::flags))]
 fn read_flags(cursor: &mut Cursor<'_>) -> Result<(), TextRefusal>
     ensures gives { ReadsRest flags cursor.old cursor.new result }
     ensures fewer { OnOk result (size cursor.new < size cursor.old) }
@@ -157,6 +181,7 @@ fn read_flags(cursor: &mut Cursor<'_>) -> Result<(), TextRefusal>
 }
 
 /// Reads `( :predicates PREDICATE* )`.
+#[tactic(auto, using(token_cursor::proofs::Steps::reading_steps), unfolding(crate::specs::Grammar::predicates_section))]
 fn read_predicates_section(
     alloc: Global,
     cursor: &mut Cursor<'_>,
@@ -164,34 +189,30 @@ fn read_predicates_section(
     ensures gives { ReadsOne predicates_section cursor.old cursor.new result }
     ensures fewer { OnOk result (size cursor.new < size cursor.old) }
 {
-    cursor.open_group(b":predicates")?;
-    read_predicates(alloc, cursor)
-}
-
-/// What the first section of a domain is.
-#[derive(Clone, Copy, Debug)]
-enum FirstSection {
-    /// The requirements, behind which the predicates stand.
-    Requirements,
-    /// The predicates.
-    Predicates,
+    cursor.open_group(keywords::PREDICATES_FLAG)?;
+    read_list(alloc, cursor, &Predicates)
 }
 
 /// Goes past the flag of the first section.
-#[tactic(auto, unfolding(crate::specs::Grammar::first_flag, token_cursor::specs::Sequences::keyword))]
+#[tactic(auto, using(token_cursor::proofs::Steps::reading_steps), unfolding(crate::specs::Grammar::first_flag))]
 fn read_first_flag(cursor: &mut Cursor<'_>) -> Result<FirstSection, TextRefusal>
     ensures gives { ReadsOne first_flag cursor.old cursor.new result }
     ensures fewer { OnOk result (size cursor.new < size cursor.old) }
 {
-    if cursor.is_word(b":requirements") {
+    let word = cursor.word_ahead()?;
+    if is_same_word(word, keywords::REQUIREMENTS_FLAG) {
         cursor.advance();
         return Ok(FirstSection::Requirements);
     }
-    cursor.expect_keyword(b":predicates")?;
-    Ok(FirstSection::Predicates)
+    if is_same_word(word, keywords::PREDICATES_FLAG) {
+        cursor.advance();
+        return Ok(FirstSection::Predicates);
+    }
+    Err(cursor.refusal(TextCode::Expected))
 }
 
 /// Reads the first section: the predicates, or None where it is the requirements.
+#[tactic(auto, using(token_cursor::proofs::Steps::reading_steps), unfolding(crate::specs::Grammar::first_section))]
 fn read_first_section(
     alloc: Global,
     cursor: &mut Cursor<'_>,
@@ -207,13 +228,14 @@ fn read_first_section(
             Ok(None)
         }
         FirstSection::Predicates => {
-            let predicates = read_predicates(alloc, cursor)?;
+            let predicates = read_list(alloc, cursor, &Predicates)?;
             Ok(Some(predicates))
         }
     }
 }
 
 /// Reads the actions of a domain with this name and these predicates, and its `)`.
+#[tactic(auto, using(token_cursor::proofs::Steps::reading_steps), unfolding(crate::specs::Grammar::domain_with))]
 fn read_domain_with(
     alloc: Global,
     cursor: &mut Cursor<'_>,
@@ -223,7 +245,13 @@ fn read_domain_with(
     ensures gives { ReadsRest (domain_with name predicates) cursor.old cursor.new result }
     ensures fewer { OnOk result (size cursor.new < size cursor.old) }
 {
-    let actions = read_actions(alloc, cursor, predicates.as_slice())?;
+    let actions = read_list(
+        alloc,
+        cursor,
+        &Actions {
+            predicates: predicates.as_slice(),
+        },
+    )?;
     Ok(Domain {
         name: name.text,
         types: List::from_vec(Vec::new(alloc)),
@@ -235,6 +263,7 @@ fn read_domain_with(
 }
 
 /// Reads the predicates of a domain with this name, which stand behind its requirements, and the rest of it.
+#[tactic(auto, using(token_cursor::proofs::Steps::reading_steps), unfolding(crate::specs::Grammar::declarations))]
 fn read_declarations(
     alloc: Global,
     cursor: &mut Cursor<'_>,
@@ -248,6 +277,7 @@ fn read_declarations(
 }
 
 /// Reads the sections of a domain with this name, and its `)`.
+#[tactic(auto, using(token_cursor::proofs::Steps::reading_steps), unfolding(crate::specs::Grammar::domain_sections))]
 fn read_sections(alloc: Global, cursor: &mut Cursor<'_>, name: Name) -> Result<Domain, TextRefusal>
     ensures gives { ReadsRest (domain_sections name) cursor.old cursor.new result }
     ensures fewer { OnOk result (size cursor.new < size cursor.old) }
@@ -259,28 +289,13 @@ fn read_sections(alloc: Global, cursor: &mut Cursor<'_>, name: Name) -> Result<D
     }
 }
 
-/// Reads `( KIND NAME )`, with which a definition of this kind begins.
-pub(crate) fn read_heading(
-    alloc: Global,
-    cursor: &mut Cursor<'_>,
-    kind: &[u8],
-) -> Result<Name, TextRefusal>
-    ensures gives { ReadsOne (heading kind.now) cursor.old cursor.new result }
-    ensures fewer { OnOk result (size cursor.new < size cursor.old) }
-{
-    cursor.open_group(kind)?;
-    let name = read_name(alloc, cursor)?;
-    cursor.close()?;
-    Ok(name)
-}
-
 /// Reads `( define ( domain NAME ) .. )`.
-#[tactic(auto, using(token_cursor::proofs::GroupSteps::reading_steps), unfolding(crate::specs::Grammar::domain))]
+#[tactic(auto, using(token_cursor::proofs::Steps::reading_steps), unfolding(crate::specs::Grammar::domain))]
 pub(crate) fn read_domain(alloc: Global, cursor: &mut Cursor<'_>) -> Result<Domain, TextRefusal>
     ensures gives { ReadsOne domain cursor.old cursor.new result }
     ensures fewer { OnOk result (size cursor.new < size cursor.old) }
 {
-    cursor.open_group(b"define")?;
-    let name = read_heading(alloc, cursor, b"domain")?;
+    cursor.open_group(keywords::DEFINE)?;
+    let name = read_heading(alloc, cursor, keywords::DOMAIN)?;
     read_sections(alloc, cursor, name)
 }

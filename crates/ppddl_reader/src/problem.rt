@@ -1,37 +1,43 @@
-//! The problem of a thin text.
+//! The problem of a thin text. This goes when problems of the whole language are read.
 
-ghost use Rattle.std.specs.Prelude.{◌≡◌, ◌<◌, [], OnOk};
-ghost use Rattle.token_cursor.specs.Ahead.{same, size};
-ghost use Rattle.token_cursor.specs.Reading.{Gives, ReadsOne, ReadsRest};
-ghost use Rattle.ppddl_reader.specs.Grammar.{known_name, domain_section, facts, init_section, goal_section, reward_section, metric_value, metric, metric_and_end, problem_end, problem_sections, problem};
+ghost use Rattle.std.specs.Prelude.{◌≡◌, ◌<◌, OnOk};
+ghost use Rattle.token_cursor.specs.Ahead.{size};
+ghost use Rattle.token_cursor.specs.Reading.{ReadsOne, ReadsRest};
+ghost use Rattle.ppddl_reader.specs.Grammar.{known_name, domain_section, fact, init_section};
+ghost use Rattle.ppddl_reader.specs.Grammar.{goal_section, reward_section, metric_value};
+ghost use Rattle.ppddl_reader.specs.Grammar.{metric, metric_and_end, problem_end};
+ghost use Rattle.ppddl_reader.specs.Grammar.{problem_sections, problem};
 
-use crate::domain::read_heading;
-use crate::forms::{read_atom, read_condition, read_reward};
+use crate::forms::{read_atom, read_condition, read_heading, read_reward};
+use crate::name::{Name, read_name};
 use crate::numbers::read_amount;
-use crate::words::{Name, read_name};
+use ppddl_lex::keywords;
 use ppddl_model::{
     Condition, Domain, InitItem, List, PredicateDecl, Problem, TextCode, TextRefusal,
 };
 use std::alloc::Global;
-use token_cursor::{Cursor, Next};
+use token_cursor::{Cursor, ListReader, TokenKind, read_list};
 
 /// The most micro-units of a goal reward: 100 million units.
 const MOST_REWARD: u64 = 100_000_000_000_000;
 
 /// Goes past the domain's name.
-#[tactic(auto, using(token_cursor::proofs::GroupSteps::group_steps), unfolding(crate::specs::Grammar::known_name))]
-fn read_known_name(alloc: Global, cursor: &mut Cursor<'_>, known: &[u8]) -> Result<(), TextRefusal>
+#[tactic(auto, using(token_cursor::proofs::Steps::reading_steps), unfolding(crate::specs::Grammar::known_name))]
+fn read_known_name(
+    alloc: Global,
+    cursor: &mut Cursor<'_>,
+    known: &[u8],
+) -> Result<Name, TextRefusal>
     ensures gives { ReadsOne (known_name known.now) cursor.old cursor.new result }
     ensures fewer { OnOk result (size cursor.new < size cursor.old) }
 {
     let name = read_name(alloc, cursor)?;
-    if name.text.as_slice() != known {
-        return Err(name.place.refusal(TextCode::DomainName));
-    }
-    Ok(())
+    let is_known = name.text.as_slice() == known;
+    name.checked(is_known, TextCode::DomainName)
 }
 
 /// Goes past `( :domain NAME )` with the domain's name.
+#[tactic(auto, using(token_cursor::proofs::Steps::reading_steps), unfolding(crate::specs::Grammar::domain_section))]
 fn read_domain_section(
     alloc: Global,
     cursor: &mut Cursor<'_>,
@@ -40,30 +46,48 @@ fn read_domain_section(
     ensures gives { ReadsOne (domain_section known.now) cursor.old cursor.new result }
     ensures fewer { OnOk result (size cursor.new < size cursor.old) }
 {
-    cursor.open_group(b":domain")?;
+    cursor.open_group(keywords::DOMAIN_FLAG)?;
     read_known_name(alloc, cursor, known)?;
     cursor.close()
 }
 
-/// Reads the facts up to the end of the group.
-fn read_facts(
+/// Reads a fact.
+#[tactic(auto, using(token_cursor::proofs::Steps::reading_steps), unfolding(crate::specs::Grammar::fact))]
+fn read_fact(
     alloc: Global,
     cursor: &mut Cursor<'_>,
     predicates: &[PredicateDecl],
-) -> Result<List<InitItem>, TextRefusal>
-    ensures gives { ReadsRest (facts predicates.now []) cursor.old cursor.new result }
+) -> Result<InitItem, TextRefusal>
+    ensures gives { ReadsOne (fact predicates.now) cursor.old cursor.new result }
     ensures fewer { OnOk result (size cursor.new < size cursor.old) }
 {
-    let mut items: Vec<InitItem> = Vec::new(alloc);
-    while cursor.has_form() {
-        let atom = read_atom(alloc, cursor, predicates)?;
-        items.push(InitItem::Fact(atom))?;
+    let atom = read_atom(alloc, cursor, predicates)?;
+    Ok(InitItem::Fact(atom))
+}
+
+/// The facts of a problem over these predicates.
+#[derive(Clone, Copy)]
+struct Facts<'a> {
+    predicates: &'a [PredicateDecl],
+}
+
+impl<'a> ListReader for Facts<'a> {
+    type Item = InitItem;
+
+    ghost item = { λ facts seen. fact facts.predicates.now };
+
+    fn read_item(
+        &self,
+        alloc: Global,
+        cursor: &mut Cursor<'_>,
+        _seen: &[InitItem],
+    ) -> Result<InitItem, TextRefusal> {
+        read_fact(alloc, cursor, self.predicates)
     }
-    cursor.close()?;
-    Ok(List::from_vec(items))
 }
 
 /// Reads `( :init ATOM* )`.
+#[tactic(auto, using(token_cursor::proofs::Steps::reading_steps), unfolding(crate::specs::Grammar::init_section))]
 fn read_init_section(
     alloc: Global,
     cursor: &mut Cursor<'_>,
@@ -72,11 +96,12 @@ fn read_init_section(
     ensures gives { ReadsOne (init_section predicates.now) cursor.old cursor.new result }
     ensures fewer { OnOk result (size cursor.new < size cursor.old) }
 {
-    cursor.open_group(b":init")?;
-    read_facts(alloc, cursor, predicates)
+    cursor.open_group(keywords::INIT_FLAG)?;
+    read_list(alloc, cursor, &Facts { predicates })
 }
 
 /// Reads `( :goal CONDITION )`.
+#[tactic(auto, using(token_cursor::proofs::Steps::reading_steps), unfolding(crate::specs::Grammar::goal_section))]
 fn read_goal_section(
     alloc: Global,
     cursor: &mut Cursor<'_>,
@@ -85,47 +110,50 @@ fn read_goal_section(
     ensures gives { ReadsOne (goal_section predicates.now) cursor.old cursor.new result }
     ensures fewer { OnOk result (size cursor.new < size cursor.old) }
 {
-    cursor.open_group(b":goal")?;
+    cursor.open_group(keywords::GOAL_FLAG)?;
     let goal = read_condition(alloc, cursor, predicates)?;
     cursor.close()?;
     Ok(goal)
 }
 
 /// Reads `( :goal-reward AMOUNT )`.
-fn read_reward_section(alloc: Global, cursor: &mut Cursor<'_>) -> Result<u64, TextRefusal>
+#[tactic(auto, using(token_cursor::proofs::Steps::reading_steps), unfolding(crate::specs::Grammar::reward_section))]
+fn read_reward_section(cursor: &mut Cursor<'_>) -> Result<u64, TextRefusal>
     ensures gives { ReadsOne reward_section cursor.old cursor.new result }
     ensures fewer { OnOk result (size cursor.new < size cursor.old) }
 {
-    cursor.open_group(b":goal-reward")?;
-    let reward = read_amount(alloc, cursor, MOST_REWARD)?;
+    cursor.open_group(keywords::GOAL_REWARD_FLAG)?;
+    let reward = read_amount(cursor, MOST_REWARD)?;
     cursor.close()?;
     Ok(reward)
 }
 
 /// Goes past `reward` or `( reward )`.
-#[tactic(auto, unfolding(crate::specs::Grammar::metric_value))]
+#[tactic(auto, using(token_cursor::proofs::Steps::reading_steps), unfolding(crate::specs::Grammar::metric_value))]
 fn read_metric_value(cursor: &mut Cursor<'_>) -> Result<(), TextRefusal>
     ensures gives { ReadsOne metric_value cursor.old cursor.new result }
     ensures fewer { OnOk result (size cursor.new < size cursor.old) }
 {
-    if cursor.next() == Next::Open {
+    if cursor.peek() == Some(TokenKind::Left) {
         return read_reward(cursor);
     }
-    cursor.expect_word(b"reward", TextCode::Unsupported)
+    cursor.expect_word(keywords::REWARD, TextCode::Unsupported)
 }
 
 /// Goes past `( :metric maximize REWARD )`.
+#[tactic(auto, using(token_cursor::proofs::Steps::reading_steps), unfolding(crate::specs::Grammar::metric))]
 fn read_metric(cursor: &mut Cursor<'_>) -> Result<(), TextRefusal>
     ensures gives { ReadsOne metric cursor.old cursor.new result }
     ensures fewer { OnOk result (size cursor.new < size cursor.old) }
 {
-    cursor.open_group(b":metric")?;
-    cursor.expect_keyword(b"maximize")?;
+    cursor.open_group(keywords::METRIC_FLAG)?;
+    cursor.expect_keyword(keywords::MAXIMIZE)?;
     read_metric_value(cursor)?;
     cursor.close()
 }
 
 /// Goes past the metric, which may be missing, and the `)` behind it.
+#[tactic(auto, using(token_cursor::proofs::Steps::reading_steps), unfolding(crate::specs::Grammar::metric_and_end))]
 fn read_metric_and_end(cursor: &mut Cursor<'_>) -> Result<(), TextRefusal>
     ensures gives { ReadsRest metric_and_end cursor.old cursor.new result }
     ensures fewer { OnOk result (size cursor.new < size cursor.old) }
@@ -137,6 +165,7 @@ fn read_metric_and_end(cursor: &mut Cursor<'_>) -> Result<(), TextRefusal>
 }
 
 /// Reads the sections of a problem behind its goal, and its `)`.
+#[tactic(auto, using(token_cursor::proofs::Steps::reading_steps), unfolding(crate::specs::Grammar::problem_end))]
 fn read_problem_end(
     alloc: Global,
     cursor: &mut Cursor<'_>,
@@ -147,7 +176,7 @@ fn read_problem_end(
     ensures gives { ReadsRest (problem_end name init goal) cursor.old cursor.new result }
     ensures fewer { OnOk result (size cursor.new < size cursor.old) }
 {
-    let reward = read_reward_section(alloc, cursor)?;
+    let reward = read_reward_section(cursor)?;
     read_metric_and_end(cursor)?;
     Ok(Problem {
         name: name.text,
@@ -162,6 +191,7 @@ fn read_problem_end(
 }
 
 /// Reads the sections of a problem with this name, of this domain, and its `)`.
+#[tactic(auto, using(token_cursor::proofs::Steps::reading_steps), unfolding(crate::specs::Grammar::problem_sections))]
 fn read_sections(
     alloc: Global,
     cursor: &mut Cursor<'_>,
@@ -179,6 +209,7 @@ fn read_sections(
 }
 
 /// Reads `( define ( problem NAME ) .. )` of this domain.
+#[tactic(auto, using(token_cursor::proofs::Steps::reading_steps), unfolding(crate::specs::Grammar::problem))]
 pub(crate) fn read_problem(
     alloc: Global,
     cursor: &mut Cursor<'_>,
@@ -187,7 +218,7 @@ pub(crate) fn read_problem(
     ensures gives { ReadsOne (problem domain.now) cursor.old cursor.new result }
     ensures fewer { OnOk result (size cursor.new < size cursor.old) }
 {
-    cursor.open_group(b"define")?;
-    let name = read_heading(alloc, cursor, b"problem")?;
+    cursor.open_group(keywords::DEFINE)?;
+    let name = read_heading(alloc, cursor, keywords::PROBLEM)?;
     read_sections(alloc, cursor, domain, name)
 }

@@ -1,6 +1,7 @@
 //! The coin as text and as tree, and near misses.
 
 use crate::read;
+use ppddl_lex::MOST_TEXT;
 use ppddl_model::{
     Action, Atom, Branch, Condition, Domain, Effect, Fraction, List, PredicateDecl, Problem, Task,
     Text, TextCode, TextRefusal,
@@ -104,40 +105,73 @@ fn coin(alloc: Global) -> Result<Task, AllocError> {
     })
 }
 
-/// Whether the answer is the refusal of what is no thin text.
-fn is_refused(answer: &Result<Task, TextRefusal>) -> bool {
-    matches!(
-        answer,
-        Err(TextRefusal::At {
-            code: TextCode::Unsupported,
-            file: 1,
-            line: 0
-        })
-    )
+/// The refusal of what is no thin text.
+const NOT_THIN: TextRefusal = TextRefusal::At {
+    code: TextCode::Unsupported,
+    file: 1,
+    line: 0,
+};
+
+/// How many predicates and actions there may be at most.
+const MOST: u8 = 64;
+
+/// Pushes a part for each number below `MOST`: what stands before the number's two digits, and behind them.
+fn push_each(out: &mut Vec<u8>, before: &[u8], behind: &[u8]) -> Result<(), AllocError> {
+    for number in 0..MOST {
+        out.extend_from_slice(before)?;
+        out.push(b'0' + number / 10)?;
+        out.push(b'0' + number % 10)?;
+        out.extend_from_slice(behind)?;
+    }
+    Ok(())
+}
+
+/// As many predicates, actions and facts as there are, and a goal that always holds.
+fn widest(alloc: Global) -> Result<Vec<u8>, AllocError> {
+    let mut text = Vec::from_slice(alloc, b"(define (domain wide) (:predicates")?;
+    push_each(&mut text, b" (p", b")")?;
+    text.push(b')')?;
+    push_each(
+        &mut text,
+        b" (:action a",
+        b" :effect (and (decrease (reward) 2.5) (probabilistic 0.25 (p00))))",
+    )?;
+    text.extend_from_slice(b") (define (problem all) (:domain wide) (:init")?;
+    push_each(&mut text, b" (P", b")")?;
+    text.extend_from_slice(b") (:goal ( )) (:goal-reward 7))")?;
+    Ok(text)
 }
 
 #[test]
 fn the_coin_is_read(rt: HostRuntime) -> Result<(), Fail> {
     let expected = coin(rt.alloc())?;
     for text in [COIN, COIN_AGAIN] {
-        assert!(rt; text.len() <= 1_048_576);
+        assert!(rt; text.len() <= MOST_TEXT);
         assert!(rt; read(rt.alloc(), text.as_bytes(), None).ok().as_ref() == Some(&expected));
     }
     Ok(())
 }
 
 #[test]
-fn near_misses_are_refused(rt: HostRuntime) {
-    for text in REFUSED {
-        assert!(rt; text.len() <= 1_048_576);
-        assert!(rt;
-            is_refused(&read(rt.alloc(), text.as_bytes(), None)),
-            "{text}"
-        );
-    }
+fn a_wide_text_is_read(rt: HostRuntime) -> Result<(), Fail> {
+    let text = widest(rt.alloc())?;
+    assert!(rt; text.len() <= MOST_TEXT);
+    let task = read(rt.alloc(), text.as_slice(), None)?;
+    assert_eq!(rt; task.domain.predicates.as_slice().len(), 64);
+    assert_eq!(rt; task.domain.actions.as_slice().len(), 64);
+    assert_eq!(rt; task.problem.init.as_slice().len(), 64);
+    assert!(rt; task.problem.goal == Condition::All(List::from_vec(Vec::new(rt.alloc()))));
+    Ok(())
 }
 
 #[test]
-fn a_second_text_is_refused(rt: HostRuntime) {
-    assert!(rt; is_refused(&read(rt.alloc(), COIN.as_bytes(), Some(b""))));
+fn near_misses_are_refused(rt: HostRuntime) {
+    for text in REFUSED {
+        assert!(rt; text.len() <= MOST_TEXT);
+        assert!(rt;
+            read(rt.alloc(), text.as_bytes(), None).err() == Some(NOT_THIN),
+            "{text}"
+        );
+    }
+    assert!(rt; read(rt.alloc(), COIN.as_bytes(), Some(b"")).err() == Some(NOT_THIN));
 }

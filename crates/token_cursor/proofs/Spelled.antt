@@ -22,10 +22,12 @@ pieces-put_left a b fs out =
     pieces-put (group a fs b) out ∙ ap (λ (ps : List Piece). left a ∷ ps) (append_assoc (spell_all fs) (right b ∷ []) (pieces_of out))
 
 after-put_word : (w : List ℕ) (a : Place) (h : Ahead) → after (put (lone w a) h) ≡ h
+unfolding after
 after-put_word w a (top fs e) = refl
 after-put_word w a (inner fs b out) = refl
 
 after-put_group : (a b : Place) (fs : Forms) (h : Ahead) → after (put (group a fs b) h) ≡ inner fs b h
+unfolding after
 after-put_group a b fs (top gs e) = refl
 after-put_group a b fs (inner gs c out) = refl
 
@@ -41,6 +43,7 @@ not_top e b fs ps at is =
     cc
 
 after-left : (e a : Place) (ps : List Piece) (h : Ahead) → ahead_of e ps ≡ h → pieces_of (put_left a h) ≡ left a ∷ ps → (after (put_left a h) ≡ h) × (pieces_of h ≡ ps)
+unfolding after
 after-left e a ps (top fs b) at spelled =
     absurd (not_top e b fs ps at (sym (tail_is (left a) ((spell_all fs ++ right b ∷ []) ++ []) ps spelled)))
 after-left e a ps (inner fs b out) at spelled =
@@ -48,6 +51,7 @@ after-left e a ps (inner fs b out) at spelled =
 
 -- behind the first piece lies what is ahead of the others
 pub after_first : (e : Place) (p : Piece) (ps : List Piece) → IsSpelled e (p ∷ ps) → (after (ahead_of e (p ∷ ps)) ≡ ahead_of e ps) × IsSpelled e ps
+unfolding after
 after_first e (left a) ps spelled = after-left e a ps (ahead_of e ps) refl spelled
 after_first e (right b) ps spelled = (refl, tail_is (right b) (pieces_of (ahead_of e ps)) ps spelled)
 after_first e (word w a) ps spelled =
@@ -66,34 +70,42 @@ place_of_piece (right b) = b
 place_of_piece (word w a) = a
 
 next-put : (f : Form) (h : Ahead) → next_of (put f h) ≡ Some (kind_of f)
+unfolding next_of
 next-put f (top fs e) = refl
 next-put f (inner fs b out) = refl
 
 next-put_left : (a : Place) (h : Ahead) → next_of (put_left a h) ≡ Some Left
+unfolding next_of
 next-put_left a (top fs e) = refl
 next-put_left a (inner fs b out) = next-put (group a fs b) out
 
 pub next_first : (e : Place) (p : Piece) (ps : List Piece) → next_of (ahead_of e (p ∷ ps)) ≡ Some (kind_of_piece p)
+unfolding next_of
 next_first e (left a) ps = next-put_left a (ahead_of e ps)
 next_first e (right b) ps = refl
 next_first e (word w a) ps = next-put (lone w a) (ahead_of e ps)
 
 place-put : (f : Form) (h : Ahead) → place_of (put f h) ≡ begin_of f
+unfolding place_of
 place-put f (top fs e) = refl
 place-put f (inner fs b out) = refl
 
 place-put_left : (a : Place) (h : Ahead) → place_of (put_left a h) ≡ a
+unfolding place_of
 place-put_left a (top fs e) = refl
 place-put_left a (inner fs b out) = place-put (group a fs b) out
 
 pub place_first : (e : Place) (p : Piece) (ps : List Piece) → place_of (ahead_of e (p ∷ ps)) ≡ place_of_piece p
+unfolding place_of
 place_first e (left a) ps = place-put_left a (ahead_of e ps)
 place_first e (right b) ps = refl
 place_first e (word w a) ps = place-put (lone w a) (ahead_of e ps)
 
 word-put : (w : List ℕ) (a : Place) (h : Ahead) → word_of (put (lone w a) h) ≡ w
+unfolding word_of
 word-put w a (top fs e) = refl
 word-put w a (inner fs b out) = refl
 
 pub word_first : (e : Place) (w : List ℕ) (a : Place) (ps : List Piece) → word_of (ahead_of e (word w a ∷ ps)) ≡ w
+unfolding word_of
 word_first e w a ps = word-put w a (ahead_of e ps)

@@ -10,12 +10,14 @@ use Rattle.token_cursor.specs.Reading.{Fault, Gives, read_to, one_at}
 use Rattle.token_cursor.proofs.Results.{read_ok}
 
 pub one_taken : {A : Type 0} (read : Form → Result A Fault) (h k : Ahead) (x : A) → one_at read h ≡ read_to x k → (f : Form) × (read (lowered_form f) ≡ Ok x) × (h ≡ put f k)
+unfolding one_at
 one_taken read (top none e) k x is = absurd cc
 one_taken read (top (more f fs) e) k x is = let b = read_ok (read (lowered_form f)) x (top fs e) k is in (f, b.0, ap (put f) b.1)
 one_taken read (inner none b out) k x is = absurd cc
 one_taken read (inner (more f fs) b out) k x is = let r = read_ok (read (lowered_form f)) x (inner fs b out) k is in (f, r.0, ap (put f) r.1)
 
 pub one_reads : {A : Type 0} (read : Form → Result A Fault) (f : Form) (x : A) (h : Ahead) → read (lowered_form f) ≡ Ok x → one_at read (put f h) ≡ read_to x h
+unfolding one_at
 one_reads read f x (top fs e) is = rw is refl
 one_reads read f x (inner fs b out) is = rw is refl
 

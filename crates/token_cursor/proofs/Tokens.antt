@@ -70,6 +70,7 @@ module _ (c : Inside) (t : Token) (lt : c.index < length c.tokens.now) (at : t �
   word_at is = ap word_of ahead_is ∙ word-kind end t.kind _ _ (rest_of (advanced c)) (kind_is t.kind (sym next_at ∙ is))
 
   pub after_at : IsValid c → (ahead_at (advanced c) ≡ after (ahead_at c)) × IsValid (advanced c) × (suc (size (ahead_at (advanced c))) ≡ size (ahead_at c))
+  unfolding size
   after_at v =
       let spelled : IsSpelled end (first ∷ rest_of (advanced c)) = subst (IsSpelled end) rest_is v.spelled in
       let b = after_first end first (rest_of (advanced c)) spelled in (
@@ -84,6 +85,7 @@ at_end c le = ap (ahead_of (end_of_text c.text.now c.file)) (past c.text.now c.f
 
 -- where the end is not next, a token is
 pub is_token : (c : Inside) → (next_of (ahead_at c) ≡ None → ⊥) → c.index < length c.tokens.now
+unfolding next_of
 is_token c not =
     elim (cases_lt c.index (length c.tokens.now)) [
       | inl lt ↦ lt

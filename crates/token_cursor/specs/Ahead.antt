@@ -43,7 +43,7 @@ end_of (top fs e) = e
 end_of (inner fs b out) = end_of out
 
 -- the number of pieces that lie ahead
-abbrev pub size : Ahead → ℕ
+unfoldable pub size : Ahead → ℕ
 size h = length (pieces_of h)
 
 -- no group is open
@@ -51,7 +51,7 @@ abbrev pub is_top : Ahead → Bool
 is_top (top fs e) = true
 is_top (inner fs b out) = false
 
-abbrev pub after : Ahead → Ahead
+unfoldable pub after : Ahead → Ahead
 after (top none e) = top none e
 after (top (more (lone w a) fs) e) = top fs e
 after (top (more (group a fs b) gs) e) = inner fs b (top gs e)
@@ -64,20 +64,20 @@ kind_of (lone w a) = Word
 kind_of (group a fs b) = Left
 
 -- None at the end of the text
-abbrev pub next_of : Ahead → Option TokenKind
+unfoldable pub next_of : Ahead → Option TokenKind
 next_of (top none e) = None
 next_of (top (more f fs) e) = Some (kind_of f)
 next_of (inner none b out) = Some Right
 next_of (inner (more f fs) b out) = Some (kind_of f)
 
-abbrev pub has_form : Ahead → Bool
+unfoldable pub has_form : Ahead → Bool
 has_form (top none e) = false
 has_form (top (more f fs) e) = true
 has_form (inner none b out) = false
 has_form (inner (more f fs) b out) = true
 
 -- the end of the text where no piece is next
-abbrev pub place_of : Ahead → Place
+unfoldable pub place_of : Ahead → Place
 place_of (top none e) = e
 place_of (top (more f fs) e) = begin_of f
 place_of (inner none b out) = b
@@ -88,7 +88,7 @@ word_of_form (lone w a) = w
 word_of_form (group a fs b) = []
 
 -- empty where no word is next
-abbrev pub word_of : Ahead → List ℕ
+unfoldable pub word_of : Ahead → List ℕ
 word_of (top none e) = []
 word_of (top (more f fs) e) = word_of_form f
 word_of (inner none b out) = []
@@ -102,7 +102,7 @@ abbrev pub is_word_form : List ℕ → Form → Bool
 is_word_form w (lone v a) = is_same_word v w
 is_word_form w (group a fs b) = false
 
-abbrev pub is_word : List ℕ → Ahead → Bool
+unfoldable pub is_word : List ℕ → Ahead → Bool
 is_word w (top none e) = false
 is_word w (top (more f fs) e) = is_word_form w f
 is_word w (inner none b out) = false

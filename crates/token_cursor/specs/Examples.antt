@@ -35,6 +35,7 @@ is_text = refl
 
 -- and a word is read in lower case
 is_read : one_at (wanted (codes "not") Expected) (top (more (w (codes "NOT") 1) none) (line 3)) ≡ read_to tt (top none (line 3))
+unfolding one_at
 is_read = refl
 
 -- ---- what lies ahead
@@ -60,15 +61,15 @@ equal = group_with (codes "=") (one_then term (λ x. one_then term (λ y. last (
 
 -- a missing term is refused at the `)` of its group
 missing : one_at equal (ahead_of (line 9) (left (line 1) ∷ word (codes "=") (line 2) ∷ word (codes "a") (line 3) ∷ right (line 4) ∷ [])) ≡ fails Expected (line 4)
-unfolding equal term of_word group_with in_group one_then keyword last
+unfolding one_at equal term of_word group_with in_group one_then keyword last
 missing = refl
 
 -- the `)` that ends a list is refused where the text has none
 at_the_end : rest_at (many term) (ahead_of (line 9) (word (codes "a") (line 1) ∷ [])) ≡ fails Expected (line 9)
-unfolding many term of_word
+unfolding rest_at many term of_word
 at_the_end = refl
 
 -- and the end of the text where a `)` stands
 not_at_the_end : all_at (many term) (ahead_of (line 9) (word (codes "a") (line 1) ∷ right (line 2) ∷ [])) ≡ fails Expected (line 2)
-unfolding many term of_word
+unfolding all_at many term of_word
 not_at_the_end = refl

@@ -31,7 +31,7 @@ abbrev pub CheckingIsRead : {A B : Type 0} → (A → Result B Fault) → (Form 
 CheckingIsRead test read = (h : Ahead) → one_at (checking test read) h ≡ (one_at read h >>= λ y. test y.0 >>= λ x. read_to x y.1)
 
 abbrev pub RefusedIfIsRead : {A : Type 0} → Bool → TextCode → (Form → Result A Fault) → Type 0
-RefusedIfIsRead test code read = (h : Ahead) → one_at (refused_if test code read) h ≡ cond (test && has_form h) (fails code (place_of h)) (one_at read h)
+RefusedIfIsRead test code read = (h : Ahead) → one_at (refused_if test code read) h ≡ cond (has_form h && test) (fails code (place_of h)) (one_at read h)
 
 abbrev pub GroupIsRead : {A : Type 0} → (Forms → Place → Result A Fault) → Type 0
 GroupIsRead read = (h : Ahead) → one_at (in_group read) h ≡ (opened h >>= λ k. rest_at read k)

@@ -52,19 +52,19 @@ abbrev pub read_to : {A : Type 0} → A → Ahead → Result (A × Ahead) Fault
 read_to x h = Ok (x, h)
 
 -- where a form is missing, the end of the group or of the text is at fault
-abbrev pub one_at : {A : Type 0} → (Form → Result A Fault) → Ahead → Result (A × Ahead) Fault
+unfoldable pub one_at : {A : Type 0} → (Form → Result A Fault) → Ahead → Result (A × Ahead) Fault
 one_at read (top none e) = fails Expected e
 one_at read (top (more f fs) e) = read (lowered_form f) >>= λ x. read_to x (top fs e)
 one_at read (inner none b out) = fails Expected b
 one_at read (inner (more f fs) b out) = read (lowered_form f) >>= λ x. read_to x (inner fs b out)
 
 -- outside every group there is no `)`, so the end of the text is at fault
-abbrev pub rest_at : {A : Type 0} → (Forms → Place → Result A Fault) → Ahead → Result (A × Ahead) Fault
+unfoldable pub rest_at : {A : Type 0} → (Forms → Place → Result A Fault) → Ahead → Result (A × Ahead) Fault
 rest_at read (top fs e) = read (lowered_forms fs) e >>= λ x. fails Expected e
 rest_at read (inner fs b out) = read (lowered_forms fs) b >>= λ x. read_to x out
 
 -- inside a group its `)` is at fault
-abbrev pub all_at : {A : Type 0} → (Forms → Place → Result A Fault) → Ahead → Result A Fault
+unfoldable pub all_at : {A : Type 0} → (Forms → Place → Result A Fault) → Ahead → Result A Fault
 all_at read (top fs e) = read (lowered_forms fs) e
 all_at read (inner fs b out) = read (lowered_forms fs) b >>= λ x. fails Expected b
 
@@ -80,7 +80,7 @@ opened_by (Some Left) h = Ok (after h)
 opened_by (Some Right) h = fails Expected (place_of h)
 opened_by (Some Word) h = fails Expected (place_of h)
 
-abbrev pub opened : Ahead → Result Ahead Fault
+unfoldable pub opened : Ahead → Result Ahead Fault
 opened h = opened_by (next_of h) h
 
 -- one of two values, by whether a `(` is next

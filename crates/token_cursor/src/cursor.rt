@@ -66,6 +66,7 @@ impl<'a> Cursor<'a> {
     }
 
     /// What stands next; None at the end of the text.
+    #[tactic(auto, unfolding(crate::specs::Ahead::next_of))]
     pub fn peek(&self) -> Option<TokenKind>
         ensures { result ≡ next_of self.now }
     {
@@ -74,6 +75,7 @@ impl<'a> Cursor<'a> {
     }
 
     /// Whether a form is next, and neither the end of a group nor that of the text.
+    #[tactic(auto, unfolding(crate::specs::Ahead::has_form, crate::specs::Ahead::next_of))]
     pub fn has_form(&self) -> bool
         ensures { result ≡ has_form self.now }
     {
@@ -81,6 +83,7 @@ impl<'a> Cursor<'a> {
     }
 
     /// The next word, as it stands in the text.
+    #[tactic(auto, unfolding(crate::specs::Ahead::next_of))]
     pub fn word(&self) -> &'a [u8]
         requires { next_of self.now ≡ Some Word }
         ensures { result.now ≡ word_of self.now }
@@ -90,6 +93,7 @@ impl<'a> Cursor<'a> {
     }
 
     /// The next word, as it stands in the text. Anything else that stands next is refused as `Expected`.
+    #[tactic(auto, unfolding(crate::specs::Ahead::next_of))]
     pub fn word_ahead(&self) -> Result<&'a [u8], TextRefusal>
         ensures gives { Gives (λ word. word.now) result (word_at self.now) }
         ensures stands { OnOk result (next_of self.now ≡ Some Word) }
@@ -111,6 +115,7 @@ impl<'a> Cursor<'a> {
     }
 
     /// Whether this word is next. It is given in lower case, and may stand in letters of either case.
+    #[tactic(auto, unfolding(crate::specs::Ahead::is_word, crate::specs::Ahead::next_of, crate::specs::Ahead::word_of))]
     pub fn is_word(&self, word: &[u8]) -> bool
         ensures answer { result ≡ is_word word.now self.now }
         ensures compares { next_of self.now ≡ Some Word
@@ -154,6 +159,7 @@ impl<'a> Cursor<'a> {
 
     /// Goes past this word, which is given in lower case. Another form that stands next is refused with
     /// `code`, and the end of a group or of the text as `Expected`.
+    #[tactic(auto, unfolding(crate::specs::Reading::one_at, crate::specs::Ahead::has_form, crate::specs::Ahead::next_of, crate::specs::Ahead::is_word, crate::specs::Ahead::place_of, crate::specs::Ahead::after))]
     pub fn expect_word(&mut self, word: &[u8], code: TextCode) -> Result<(), TextRefusal>
         ensures gives { Gives (λ _. (tt, self.new)) result (one_at (wanted word.now code) self.old) }
         ensures fewer { OnOk result (size self.new < size self.old) }
@@ -171,6 +177,7 @@ impl<'a> Cursor<'a> {
     }
 
     /// Goes past the `(` of a group. Anything else that stands next is refused as `Expected`.
+    #[tactic(auto, unfolding(crate::specs::Reading::opened))]
     pub fn open(&mut self) -> Result<(), TextRefusal>
         ensures gives { Gives (λ _. self.new) result (opened self.old) }
         ensures fewer { OnOk result (size self.new < size self.old) }
@@ -209,6 +216,7 @@ impl<'a> Cursor<'a> {
     }
 
     /// Goes past the `)` of the innermost group. Anything else that stands next is refused as `Expected`.
+    #[tactic(auto, unfolding(crate::specs::Reading::rest_at, crate::specs::Ahead::next_of, crate::specs::Ahead::place_of, crate::specs::Ahead::after))]
     pub fn close(&mut self) -> Result<(), TextRefusal>
         ensures gives { Gives (λ _. (tt, self.new)) result (rest_at ends self.old) }
         ensures fewer { OnOk result (size self.new < size self.old) }
@@ -223,6 +231,7 @@ impl<'a> Cursor<'a> {
     }
 
     /// Accepts the end of the text. A token that stands next is refused as `Expected`.
+    #[tactic(auto, unfolding(crate::specs::Reading::all_at, crate::specs::Ahead::next_of, crate::specs::Ahead::place_of))]
     pub fn end(&self) -> Result<(), TextRefusal>
         ensures gives { Gives (λ _. tt) result (all_at ends self.now) }
         ensures no_memory { ¬ IsErrOf result TextRefusal.Memory }

@@ -7,10 +7,12 @@
 
 mod cursor;
 mod laws;
+mod list_reader;
 mod place;
 
 pub use cursor::Cursor;
 pub use laws::reading_laws;
+pub use list_reader::{ListReader, read_list};
 pub use place::Place;
 pub use ppddl_lex::TokenKind;
 

@@ -6,7 +6,7 @@ ghost use Rattle.token_cursor.specs.Reading.{ReadsOne, ReadsRest};
 ghost use Rattle.token_cursor.specs.Sequences.{many};
 ghost use Rattle.token_cursor.specs.Examples.{term, equal};
 
-use crate::Cursor;
+use crate::{Cursor, ListReader, read_list};
 use ppddl_lex::tokens;
 use ppddl_model::{List, Text, TextCode, TextRefusal};
 use std::alloc::Global;
@@ -37,19 +37,30 @@ fn read_equal(alloc: Global, cursor: &mut Cursor<'_>) -> Result<(Text, Text), Te
     Ok((left, right))
 }
 
+/// Terms, as items of a list.
+struct Terms;
+
+impl ListReader for Terms {
+    type Item = Text;
+
+    ghost item = { λ _ seen. term };
+
+    fn read_item(
+        &self,
+        alloc: Global,
+        cursor: &mut Cursor<'_>,
+        _seen: &[Text],
+    ) -> Result<Text, TextRefusal> {
+        read_term(alloc, cursor)
+    }
+}
+
 /// Terms up to the end of the group.
 #[tactic(auto, using(crate::proofs::Steps::reading_steps))]
 fn read_terms(alloc: Global, cursor: &mut Cursor<'_>) -> Result<List<Text>, TextRefusal>
-    ensures gives { ReadsRest (many term) cursor.old cursor.new result }
-    ensures fewer { OnOk result (size cursor.new < size cursor.old) }
+    ensures { ReadsRest (many term) cursor.old cursor.new result }
 {
-    let mut terms = Vec::new(alloc);
-    while cursor.has_form() {
-        let term = read_term(alloc, cursor)?;
-        terms.push(term)?;
-    }
-    cursor.close()?;
-    Ok(List::from_vec(terms))
+    read_list(alloc, cursor, &Terms)
 }
 
 #[test]
