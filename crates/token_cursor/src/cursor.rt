@@ -161,7 +161,8 @@ impl<'a> Cursor<'a> {
     /// `code`, and the end of a group or of the text as `Expected`.
     #[tactic(auto, unfolding(crate::specs::Reading::one_at, crate::specs::Ahead::has_form, crate::specs::Ahead::next_of, crate::specs::Ahead::is_word, crate::specs::Ahead::place_of, crate::specs::Ahead::after))]
     pub fn expect_word(&mut self, word: &[u8], code: TextCode) -> Result<(), TextRefusal>
-        ensures gives { Gives (λ _. (tt, self.new)) result (one_at (wanted word.now code) self.old) }
+        ensures gives { Gives (λ _. (tt, self.new)) result
+            (one_at (wanted word.now code) self.old) }
         ensures fewer { OnOk result (size self.new < size self.old) }
         ensures kept { OnErr result (self.new ≡ self.old) }
         ensures no_memory { ¬ IsErrOf result TextRefusal.Memory }
