@@ -1,0 +1,7 @@
+pub mod Sums
+pub mod Horizon
+pub mod Attained
+pub mod Progress
+pub mod Means
+pub mod Tasks
+pub mod Coin

@@ -1,0 +1,44 @@
+-- How wide the bounds of plain rounded iteration can still be, as statements: from the penalty and the least cost of a step alone.
+-- Each step costs at least c + 1, and N is at least 2 * penalty / c. After n rounds, n at least m * N, the bounds are at most
+-- penalty / 2 ^ m + 2 * penalty / c apart.
+--     UpNarrowsToDown        those of each state
+--     IntervalNarrows        those of the starts, and 2 more, since their means are rounded
+--     TaskNarrows, TaskIntervalNarrows
+--                            the same of a planning task, with its least step cost
+use Rattle.std.specs.Prelude.{◌≡◌, ℕ, ◌+◌, ◌*◌, ◌<◌, ◌≤◌, List}
+use Rattle.weighted.specs.Mean.{total}
+use Rattle.decision_process.specs.Process.{Process, Start, HasDenominator, CostsAtLeast}
+use Rattle.decision_process.specs.Rounded.{down, up, plain_low, plain_high}
+use Rattle.ppddl_model.specs.declared.tree.Task.{Task}
+use Rattle.ppddl_model.specs.Chances.{HasProperChances, HasProperStarts, HasPositiveDenominators}
+use Rattle.ppddl_model.specs.State.{State}
+use Rattle.ppddl_model.specs.Steps.{Charges, process, least_step_cost, starts, start_den}
+use Rattle.iteration_progress.specs.Width.{IsNarrow}
+
+module _ {S A : Type 0} (p : Process S A) where
+  abbrev pub UpNarrowsToDown : Type 0
+  UpNarrowsToDown = 0 < p.den → HasDenominator p → (c N : ℕ) → CostsAtLeast p (c + 1)
+      → 2 * p.penalty ≤ N * c → (m n : ℕ) → m * N ≤ n
+      → (s : S) → IsNarrow p.penalty c m (down p n s) (up p n s)
+
+  abbrev pub IntervalNarrows : Type 0
+  IntervalNarrows = 0 < p.den → HasDenominator p → (c N : ℕ) → CostsAtLeast p (c + 1)
+      → 2 * p.penalty ≤ N * c → (m n : ℕ) → m * N ≤ n
+      → (starts : List (Start S)) (den : ℕ) → 0 < den → total (λ start. start.weight) starts ≡ den
+      → IsNarrow p.penalty c m (plain_low p starts den n + 2) (plain_high p starts den n)
+
+module _ (task : Task) (charges : Charges) where
+  abbrev pub TaskNarrows : Type 0
+  TaskNarrows = HasPositiveDenominators task → HasProperChances task
+      → (c N : ℕ) → c + 1 ≤ least_step_cost task charges
+      → 2 * charges.penalty ≤ N * c → (m n : ℕ) → m * N ≤ n → (s : State)
+      → IsNarrow charges.penalty c m
+      (down (process task charges) n s) (up (process task charges) n s)
+
+  abbrev pub TaskIntervalNarrows : Type 0
+  TaskIntervalNarrows = HasPositiveDenominators task → HasProperChances task → HasProperStarts task
+      → (c N : ℕ) → c + 1 ≤ least_step_cost task charges
+      → 2 * charges.penalty ≤ N * c → (m n : ℕ) → m * N ≤ n
+      → IsNarrow charges.penalty c m
+      (plain_low (process task charges) (starts task) (start_den task) n + 2)
+      (plain_high (process task charges) (starts task) (start_den task) n)

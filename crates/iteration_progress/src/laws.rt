@@ -1,0 +1,19 @@
+//! How wide the bounds of plain rounded iteration can still be after so many rounds.
+
+ghost use Rattle.decision_process.specs.Process.{Process};
+ghost use Rattle.ppddl_model.specs.declared.tree.Task.{Task};
+ghost use Rattle.ppddl_model.specs.Steps.{Charges};
+ghost use Rattle.iteration_progress.specs.Laws.{UpNarrowsToDown, IntervalNarrows};
+ghost use Rattle.iteration_progress.specs.Laws.{TaskNarrows, TaskIntervalNarrows};
+
+/// For every process: the bounds of each state, and the interval of weighted starts.
+pub fn progress_laws<S, A>()
+    ensures states { (p : Process S A) → UpNarrowsToDown p }
+    ensures starts { (p : Process S A) → IntervalNarrows p }
+{}
+
+/// The same of every planning task, with its least step cost.
+pub fn task_progress_laws()
+    ensures states { (task : Task) (charges : Charges) → TaskNarrows task charges }
+    ensures starts { (task : Task) (charges : Charges) → TaskIntervalNarrows task charges }
+{}
