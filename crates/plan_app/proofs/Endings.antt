@@ -19,8 +19,10 @@ use Rattle.ppddl_reader.specs.ThinTask.{IsThinTask}
 use Rattle.plan_app.specs.declared.stop.Stop.{Stop}
 use Rattle.plan_app.specs.declared.stop.Stop.TheVariants.{BadWords, ReadFailed, NoMemory, Limit, Refused, NotAccepted}
 use Rattle.plan_app.specs.Balanced.{IsBalancedFor}
-use Rattle.plan_app.specs.Inputs.{charged_by, IsDecoded, code_of, row_of, stop_of_certificate}
-use Rattle.plan_app.specs.Ending.{MayHoldTask, MayHoldThin, MayHoldCertificate, MayStop, MayEndRequest, IsJudged, CallsFor}
+use Rattle.plan_app.specs.Inputs.{charged_by, IsDecoded, code_of, row_of}
+use Rattle.plan_app.specs.Stop.{stop_of_certificate}
+use Rattle.plan_app.specs.Ending.{MayHoldTask, MayHoldThin, MayStop, MayEndRequest, CallsFor}
+use Rattle.plan_app.specs.Parts.{MayHoldCertificate, IsJudged}
 
 longer_held : (told : Told) (limit : ℕ) → (told ≡ Missing → ⊥) → ((bytes : List ℕ) → told ≡ Holds bytes → limit < length bytes)
     → (bytes : List ℕ) × MayHold told bytes × (limit < length bytes)
@@ -68,7 +70,7 @@ certificate_held law told bytes c holds within read = record {
 module _ {S : Type 0} (held : S → List ℕ → Told) (reads : S → ℕ) (old new : S) (q : Asked) (law : TextsAreRead) (thin : MayHoldThin (held old q.domain))
     (bytes : List ℕ) (holds : MayHold (held old q.certificate) bytes) where
   -- bytes that are refused, but for want of memory, are no certificate's text
-  pub rejected_with : (e : CertRefusal) (code row : ℕ) → read_of bytes ≡ Err e → code ≡ code_of (Err e) → row ≡ row_of (Err e)
+  rejected_with : (e : CertRefusal) (code row : ℕ) → read_of bytes ≡ Err e → code ≡ code_of (Err e) → row ≡ row_of (Err e)
       → MayStop held reads old new q (NotAccepted code row)
   rejected_with e code row gives code_is row_is = (
     thin.1.domain,

@@ -15,7 +15,8 @@ use Rattle.plan_app.specs.Request.{Asked, request_by}
 use Rattle.plan_app.specs.Stop.{status_of, text_of}
 use Rattle.plan_app.specs.Balanced.{IsBalancedFor}
 use Rattle.plan_app.specs.Inputs.{IsTooLong, IsRefused, IsTextOfTask, IsDecoded, IsAccepted, IsRejected}
-use Rattle.plan_app.specs.Ending.{MayHoldTask, IsMissing, MayEndRequest, MayEnd, MayEndAs, IsSaid, HasVerdict, IsAnswer, IsTold, PutsReport, SaysPut, SaysCutShort}
+use Rattle.plan_app.specs.Ending.{MayHoldTask, IsMissing, MayEndRequest, MayEnd, MayEndAs, HasVerdict, IsAnswer, IsTold, PutsReport}
+use Rattle.plan_app.specs.Parts.{IsSaid, SaysPut, SaysCutShort}
 use Rattle.plan_app.proofs.Enclosed.{start_den_positive, balanced_encloses_for}
 
 -- what a shelf tells of a name is what it may hold

@@ -1,5 +1,5 @@
 -- Lists that correspond item by item.
-use Rattle.std.proofs.Common.{◌≡◌, ℕ, ◌+◌, ◌<◌, List, [], ◌∷◌, ◌++◌, length, get_or, take, sym, ap, ◌∙◌, subst, inl, inr, arith}
+use Rattle.std.proofs.Common.{◌≡◌, ℕ, ◌+◌, ◌<◌, List, [], ◌∷◌, ◌++◌, length, get_or, take, sym, ap, ◌∙◌, subst, inl, inr}
 use Rattle.std.specs.Prelude.{Contains}
 use Rattle.std.specs.List.{AllZip}
 use Rattle.std.proofs.lemmas.List.{take_more}
@@ -18,12 +18,6 @@ module _ {A B : Type 0} (R : A → B → Type 0) where
   AllZip-more xs ys zs i x {y} pushed within found all last =
       let more : take (i + 1) xs ≡ take i xs ++ x ∷ [] = take_more xs i x within ∙ ap (λ z. take i xs ++ z ∷ []) (sym found) in
       subst (λ l. AllZip R l zs) (sym more) (subst (AllZip R (take i xs ++ x ∷ [])) (sym pushed) (AllZip-push (take i xs) ys x y all last))
-
-  pub length-AllZip : (xs : List A) (ys : List B) → AllZip R xs ys → length ys ≡ length xs
-  length-AllZip [] [] all = omega arith
-  length-AllZip [] (b ∷ ys) all = absurd all
-  length-AllZip (a ∷ xs) [] all = absurd all
-  length-AllZip (a ∷ xs) (b ∷ ys) all = omega (arith, length-AllZip xs ys all.1)
 
   -- what corresponds to an item of either list
   pub AllZip-left : (xs : List A) (ys : List B) → AllZip R xs ys → (x : A) → Contains xs x → (y : B) × Contains ys y × R x y

@@ -17,9 +17,7 @@ use Rattle.std.specs.Borrow.{Bor}
 use Rattle.std.specs.Io.KnownBytes.{Appends}
 use Rattle.shelf_io.specs.Causes.{one_more, Rose}
 use Rattle.shelf_io.specs.Shelf.{Told, Missing, Holds, MayHold}
-use Rattle.shelf_io.specs.Streams.{PutsPrefix}
 use Rattle.certificate.specs.Content.{Content}
-use Rattle.certificate.specs.Reading.{read_of}
 use Rattle.ppddl_model.specs.declared.tree.Task.{Task}
 use Rattle.ppddl_model.specs.Steps.{Charges}
 use Rattle.ppddl_reader.specs.ThinTask.{IsThinTask}
@@ -29,7 +27,7 @@ use Rattle.plan_app.specs.Request.{Asked, request_by}
 use Rattle.plan_app.specs.Texts.{accepted_text}
 use Rattle.plan_app.specs.Stop.{status_of, text_of}
 use Rattle.plan_app.specs.Balanced.{IsBalancedFor, EnclosesFor}
-use Rattle.plan_app.specs.Inputs.{IsAboveLimit, IsRefusedAt, IsTextOfTask, IsDecoded, IsRejectedAt, charged_by}
+use Rattle.plan_app.specs.Inputs.{IsAboveLimit, IsRefusedAt, IsTextOfTask, IsDecoded, IsRejectedAt}
 
 -- ---- what a shelf may hold
 
@@ -90,47 +88,6 @@ pub record MayEndAs {S : Type 0} (held : S → List ℕ → Told) (reads : S →
   pub may_end : MayEnd held reads old new (request_by words) ending
   pub status_is : status ≡ status_of ending
   pub text_is : text ≡ text_of ending
-
--- ---- what the parts of a run say
-
--- the certificate is one of the bytes that the shelf holds
-pub record MayHoldCertificate (told : Told) (c : Content) : Type 0 where
-  pub f : List ℕ
-  pub held : MayHold told f
-  pub decoded : IsDecoded f c
-  pub only : (other : Content) → IsDecoded f other → other ≡ c
-  pub read : read_of f ≡ Ok c
-
-abbrev pub IsReportOf : Task → Content → List ℕ → Type 0
-IsReportOf task c report = (charges : Charges) × (charged_by task ≡ Some charges) × IsBalancedFor task charges c × (report ≡ accepted_text c)
-
--- the certificate is not balanced
-abbrev pub IsUnbalanced : Task → Content → Type 0
-IsUnbalanced task c = (charges : Charges) × (charged_by task ≡ Some charges) × (IsBalancedFor task charges c → ⊥)
-
--- the report of a task's certificate, or why it has none
-abbrev pub IsJudged : Task → Content → Result (List ℕ) Stop → Type 0
-IsJudged task c (Ok report) = IsReportOf task c report
-IsJudged task c (Err NoMemory) = Unit {0}
-IsJudged task c (Err (NotAccepted code row)) = (code ≡ 0) × (row ≡ 0) × IsUnbalanced task c
-IsJudged task c (Err _) = ⊥
-
--- what is said of an ending: itself, or that there was no memory for its line, which bad words do not take
-abbrev pub IsSaid : Result (List ℕ) Stop → Result (List ℕ) Stop → Type 0
-IsSaid ending said = (said ≡ ending) ⊎ ((said ≡ Err NoMemory) × (ending ≢ Err BadWords))
-
--- the whole text is put, and the status answered
-pub record SaysPut (ending : Result (List ℕ) Stop) (status : ℕ) (old new : Option (List ℕ)) : Type 0 where
-  pub said : Result (List ℕ) Stop
-  pub is_said : IsSaid ending said
-  pub status_is : status ≡ status_of said
-  pub put : Appends old new (text_of said)
-
--- a first part of it is put
-pub record SaysCutShort (ending : Result (List ℕ) Stop) (old new : Option (List ℕ)) : Type 0 where
-  pub said : Result (List ℕ) Stop
-  pub is_said : IsSaid ending said
-  pub put : PutsPrefix old new (text_of said)
 
 -- ---- words of the contract of a run
 

@@ -9,8 +9,6 @@
 --     IsRejected domain f               the text is thin, and f is no such text
 --     IsRejectedAt domain f code row    it is so, with the number and the line of what is wrong with f; 0 and 0 where f is a certificate's text
 --     charged_by task                   the charges of `check`: the goal reward is the penalty, and there is no step cost
---     stop_of_text e, stop_of_certificate e
---                                       what stops a run where a text or a certificate is refused
 use Rattle.std.specs.Prelude.{◌≡◌, ℕ, ◌<◌, ◌≤◌, List, length, Option, Some, None, Result, Ok, Err}
 use Rattle.std.specs.Option.{unwrap_or}
 use Rattle.certificate.specs.declared.limits.TheConstants.{MOST_BYTES}
@@ -21,13 +19,10 @@ use Rattle.certificate.specs.declared.refusal.CertRefusal.{CertRefusal}
 use Rattle.ppddl_lex.specs.declared.lexer.TheConstants.{MOST_TEXT}
 use Rattle.ppddl_model.specs.declared.refusal.TextCode.{TextCode}
 use Rattle.ppddl_model.specs.declared.refusal.TextCode.TheVariants.{Unsupported}
-use Rattle.ppddl_model.specs.declared.refusal.TextRefusal.{TextRefusal}
-use Rattle.ppddl_model.specs.declared.refusal.TextRefusal.TheVariants.{Memory, At}
+use Rattle.ppddl_model.specs.declared.refusal.TextRefusal.TheVariants.{At}
 use Rattle.ppddl_model.specs.declared.tree.Task.{Task}
 use Rattle.ppddl_model.specs.Steps.{Charges, charges_of}
 use Rattle.ppddl_reader.specs.ThinText.{task_of}
-use Rattle.plan_app.specs.declared.stop.Stop.{Stop}
-use Rattle.plan_app.specs.declared.stop.Stop.TheVariants.{NoMemory, Refused, NotAccepted}
 use Rattle.plan_app.specs.Balanced.{IsBalancedFor}
 
 abbrev pub charged_by : Task → Option Charges
@@ -60,10 +55,6 @@ pub record IsTextOfTask (domain : List ℕ) (task : Task) (charges : Charges) : 
   pub thin : task_of domain ≡ Some task
   pub charged : charged_by task ≡ Some charges
 
-abbrev pub stop_of_text : TextRefusal → Stop
-stop_of_text Memory = NoMemory
-stop_of_text (At code file line) = Refused code file line
-
 -- ---- certificates
 
 pub record IsDecoded (f : List ℕ) (c : Content) : Type 0 where
@@ -90,6 +81,3 @@ pub record IsRejectedAt (domain f : List ℕ) (code row : ℕ) : Type 0 where
   pub rejected : IsRejected domain f
   pub code_is : code ≡ code_of (read_of f)
   pub row_is : row ≡ row_of (read_of f)
-
-abbrev pub stop_of_certificate : CertRefusal → Stop
-stop_of_certificate e = elim (number_of e) [ None ↦ NoMemory | Some code ↦ NotAccepted code (line_of e) ]

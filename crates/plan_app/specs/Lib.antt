@@ -4,6 +4,7 @@ pub mod Texts
 pub mod Stop
 pub mod Inputs
 pub mod Ending
+pub mod Parts
 pub mod Bits
 pub mod PackedTask
 pub mod RowTable

@@ -3,8 +3,14 @@
 --     stop_text stop       its line
 --     status_of ending     the status of a report, or of the stop in its place
 --     text_of ending       the text that is put: the report, or the line
-use Rattle.std.specs.Prelude.{ℕ, List, [], ◌++◌, Result, Ok, Err, codes, decimal}
+--     stop_of_text e, stop_of_certificate e
+--                          what stops a run where a text or a certificate is refused
+use Rattle.std.specs.Prelude.{ℕ, List, [], ◌++◌, Some, None, Result, Ok, Err, codes, decimal}
+use Rattle.certificate.specs.Refusals.{number_of as cert_number, line_of}
+use Rattle.certificate.specs.declared.refusal.CertRefusal.{CertRefusal}
 use Rattle.ppddl_model.specs.Codes.{number_of}
+use Rattle.ppddl_model.specs.declared.refusal.TextRefusal.{TextRefusal}
+use Rattle.ppddl_model.specs.declared.refusal.TextRefusal.TheVariants.{Memory, At}
 use Rattle.plan_app.specs.declared.stop.Stop.{Stop}
 use Rattle.plan_app.specs.declared.stop.Stop.TheVariants.{BadWords, ReadFailed, NoMemory, Limit, Refused, NotAccepted}
 use Rattle.plan_app.specs.Texts.{line}
@@ -32,3 +38,12 @@ status_of (Err stop) = stop_status stop
 abbrev pub text_of : Result (List ℕ) Stop → List ℕ
 text_of (Ok report) = report
 text_of (Err stop) = stop_text stop
+
+-- ---- refusals, as they come
+
+abbrev pub stop_of_text : TextRefusal → Stop
+stop_of_text Memory = NoMemory
+stop_of_text (At code file line) = Refused code file line
+
+abbrev pub stop_of_certificate : CertRefusal → Stop
+stop_of_certificate e = elim (cert_number e) [ None ↦ NoMemory | Some code ↦ NotAccepted code (line_of e) ]

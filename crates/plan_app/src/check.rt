@@ -5,34 +5,23 @@ ghost use Rattle.std.specs.Prelude.{◌≡◌, Some, IfOk, IfErr, OnOk};
 ghost use Rattle.shelf_io.specs.Causes.{one_more};
 ghost use Rattle.ppddl_reader.specs.ThinTask.{IsThinTask};
 ghost use Rattle.plan_app.specs.Request.{request_by};
-ghost use Rattle.plan_app.specs.Ending.{
-  MayHoldTask,
-  MayHoldThin,
-  MayHoldCertificate,
-  MayStop,
-  MayEndRequest,
-  MayEnd,
-  CallsFor,
-  IsJudged,
-  OnlyRead,
-};
+ghost use Rattle.plan_app.specs.Ending.{MayHoldTask, MayHoldThin, MayStop, MayEndRequest};
+ghost use Rattle.plan_app.specs.Ending.{MayEnd, CallsFor, OnlyRead};
+ghost use Rattle.plan_app.specs.Parts.{MayHoldCertificate, IsJudged};
 
 use crate::checker::is_balanced;
 use crate::report::check_report;
 use crate::request::{Request, request_of};
 use crate::stop::Stop;
-use certificate::{Certificate, MOST_BYTES, text_laws};
+use certificate::{CertRefusal, Certificate, MOST_BYTES, text_laws};
 use plain_list::Bytes;
 use ppddl_lex::MOST_TEXT;
 use ppddl_model::Task;
 use shelf_io::{Shelf, ShelfFault};
 use std::alloc::Global;
 
-/// The code of the limit on the bytes of a planning text.
+/// The number of the limit on the bytes of a planning text.
 const TEXT_LENGTH: u8 = 28;
-
-/// The code of a certificate's text that is too long.
-const CERTIFICATE_LENGTH: u8 = 33;
 
 /// The report that these words ask for, or why there is none.
 pub(crate) fn report_of<S: Shelf>(
@@ -99,10 +88,7 @@ fn read_certificate<S: Shelf>(
     match shelf.read(alloc, request.certificate(), MOST_BYTES as u64) {
         Ok(bytes) => Ok(certificate::read(alloc, bytes.as_slice())?),
         Err(ShelfFault::Failed) => Err(Stop::ReadFailed),
-        Err(ShelfFault::TooLong) => Err(Stop::NotAccepted {
-            code: CERTIFICATE_LENGTH,
-            row: 0,
-        }),
+        Err(ShelfFault::TooLong) => Err(Stop::from(CertRefusal::TooLong)),
         Err(ShelfFault::Memory) => Err(Stop::NoMemory),
     }
 }
@@ -118,6 +104,5 @@ fn judge(alloc: Global, task: &Task, certificate: &Certificate) -> Result<Bytes,
     if !is_balanced(alloc, task, penalty, certificate)? {
         return Err(Stop::NotAccepted { code: 0, row: 0 });
     }
-    let report = check_report(alloc, certificate)?;
-    Ok(report)
+    Ok(check_report(alloc, certificate)?)
 }

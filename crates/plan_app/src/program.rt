@@ -5,30 +5,14 @@ ghost use Rattle.std.specs.Io.KnownBytes.{Appends};
 ghost use Rattle.shelf_io.specs.Causes.{one_more, Rose};
 ghost use Rattle.shelf_io.specs.Shelf.{Holds};
 ghost use Rattle.shelf_io.specs.Streams.{PutsPrefix};
-ghost use Rattle.plan_app.specs.declared.status.TheConstants.{
-  ACCEPTED,
-  BAD_WORDS,
-  READ_FAILED,
-  WRITE_FAILED,
-  NO_MEMORY,
-  REFUSED,
-  NOT_ACCEPTED,
-  LIMIT,
-};
+ghost use Rattle.plan_app.specs.declared.status.TheConstants.{ACCEPTED, BAD_WORDS, READ_FAILED};
+ghost use Rattle.plan_app.specs.declared.status.TheConstants.{WRITE_FAILED, NO_MEMORY, REFUSED};
+ghost use Rattle.plan_app.specs.declared.status.TheConstants.{NOT_ACCEPTED, LIMIT};
 ghost use Rattle.plan_app.specs.Request.{Asked, Asks, AsksNothing};
 ghost use Rattle.plan_app.specs.Inputs.{IsTooLong, IsRefused, IsAccepted, IsRejected};
-ghost use Rattle.plan_app.specs.Ending.{
-  MayHoldThin,
-  MayEndAs,
-  HasVerdict,
-  IsMissing,
-  IsAnswer,
-  IsTold,
-  PutsReport,
-  OnlyRead,
-  SaysPut,
-  SaysCutShort,
-};
+ghost use Rattle.plan_app.specs.Ending.{MayHoldThin, MayEndAs, HasVerdict, IsMissing, IsAnswer};
+ghost use Rattle.plan_app.specs.Ending.{IsTold, PutsReport, OnlyRead};
+ghost use Rattle.plan_app.specs.Parts.{SaysPut, SaysCutShort};
 
 use crate::check::report_of;
 use crate::status::{ACCEPTED, NO_MEMORY, WRITE_FAILED};

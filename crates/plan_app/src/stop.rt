@@ -2,8 +2,7 @@
 
 ghost use Rattle.std.specs.Prelude.{◌≡◌, IfOk, IsOk, IsErr};
 ghost use Rattle.std.specs.Cow.{cow_str_bytes};
-ghost use Rattle.plan_app.specs.Stop.{stop_status, stop_text};
-ghost use Rattle.plan_app.specs.Inputs.{stop_of_text, stop_of_certificate};
+ghost use Rattle.plan_app.specs.Stop.{stop_status, stop_text, stop_of_text, stop_of_certificate};
 ghost use Rattle.plan_app.specs.declared.stop.Stop.TheVariants.{BadWords, NoMemory};
 
 use crate::status::{BAD_WORDS, LIMIT, NO_MEMORY, NOT_ACCEPTED, READ_FAILED, REFUSED};
@@ -21,7 +20,7 @@ pub(crate) enum Stop {
     ReadFailed,
     /// Want of memory.
     NoMemory,
-    /// What has this code is above the most that may be.
+    /// A quantity is above its limit: the number of the limit, and the most that may be.
     Limit { code: u8, most: u64 },
     /// The planning text is not one that is read.
     Refused { code: TextCode, file: u8, line: u32 },

@@ -1,6 +1,7 @@
 -- The parts' answers as the request's.
 use Rattle.std.proofs.Common.{rules, subst, sym}
-use Rattle.plan_app.specs.Ending.{MayHoldTask, MayHoldCertificate}
+use Rattle.plan_app.specs.Ending.{MayHoldTask}
+use Rattle.plan_app.specs.Parts.{MayHoldCertificate}
 use Rattle.plan_app.proofs.Endings.{stops_since, judged_ends, two_calls}
 use Rattle.plan_app.proofs.check.check.Goals as goal
 

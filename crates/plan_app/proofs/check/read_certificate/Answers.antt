@@ -1,8 +1,8 @@
 -- What stands under the name, by the laws of certificates' texts.
-use Rattle.std.proofs.Common.{rules, refl}
+use Rattle.std.proofs.Common.{rules}
 use Rattle.certificate.specs.declared.limits.TheConstants.{MOST_BYTES}
 use Rattle.certificate.specs.declared.refusal.CertRefusal.TheVariants.{TooLong}
-use Rattle.plan_app.proofs.Endings.{too_long_held, certificate_held, rejected_with, refused_with}
+use Rattle.plan_app.proofs.Endings.{too_long_held, certificate_held, refused_with}
 use Rattle.plan_app.proofs.check.read_certificate.Goals as goal
 
 pub returns-in_ok-read-in-Ok-clause-certificate : goal.returns-in_ok-read-in-Ok-clause-certificate
@@ -18,5 +18,6 @@ returns-in_err-read-in-Ok-clause-stop g c =
 pub returns-in-Err-TooLong-clause-stop : goal.returns-in-Err-TooLong-clause-stop
 returns-in-Err-TooLong-clause-stop g c =
     let long = too_long_held _ MOST_BYTES c.read.result (search (rules, c.in-Err-TooLong.is, c.in-Err-TooLong.field-0-is)) c.read.ensures.missing c.read.ensures.too_long in
-    rejected_with g.S.Shelf.held g.S.Shelf.read_faults c.args.shelf.now c.read.new.self c.args.request.now c.text_laws.ensures.reads c.requires
-    long.0 (search (rules, long.1)) TooLong 33 0 ((c.text_laws.ensures.refuses_long long.0).1 long.2) refl refl
+    let stop = refused_with g.S.Shelf.held g.S.Shelf.read_faults c.args.shelf.now c.read.new.self c.args.request.now c.text_laws.ensures.reads c.requires
+    long.0 (search (rules, long.1)) TooLong ((c.text_laws.ensures.refuses_long long.0).1 long.2) in
+    search (rules, stop)
