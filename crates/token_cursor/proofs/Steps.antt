@@ -1,6 +1,6 @@
 -- Reading step by step: what is read of one form, of the rest of a group and of the rest of a text, by what stands next.
 --     reading_steps    these laws, by which readers are proved
-use Rattle.std.proofs.Common.{◌≡◌, ℕ, List, [], ◌∷◌, ◌++◌, Bool, true, false, cond, Result, Ok, Err, refl, sym, ap, ◌∙◌, append_assoc}
+use Rattle.std.proofs.Common.{◌≡◌, ℕ, List, [], ◌∷◌, ◌++◌, Bool, true, false, Result, Ok, Err, refl, sym, ap, ◌∙◌, append_assoc}
 use Rattle.std.proofs.lemmas.List.{append-nil}
 use Rattle.plain_list.specs.Results.{◌>>=◌}
 use Rattle.plain_list.proofs.Results.{bind_assoc, bind_cong}
@@ -9,7 +9,7 @@ use Rattle.ppddl_model.specs.declared.refusal.TextCode.TheVariants.{Expected}
 use Rattle.token_cursor.specs.declared.place.Place.{Place}
 use Rattle.token_cursor.specs.Forms.{Form, Forms, lone, group, none, more, begin_of, lowered_form, lowered_forms}
 use Rattle.token_cursor.specs.Ahead.{Ahead, top, inner, after, next_of, has_form, place_of, word_of}
-use Rattle.token_cursor.specs.Reading.{Fault, fails, read_to, one_at, rest_at, all_at, ends, opened, word_at}
+use Rattle.token_cursor.specs.Reading.{Fault, fails, read_to, one_at, rest_at, all_at, ends, opened}
 use Rattle.token_cursor.specs.Sequences.{of_word, word_or_group, checking, refused_if, in_group, group_with, one_then, last, optional, giving, each, adding, many, located, keyword, begun}
 use Rattle.token_cursor.specs.Laws.{WordIsRead, WordOrGroupIsRead, CheckingIsRead, RefusedIfIsRead, LocatedIsRead, GroupIsRead, KeywordGroupIsRead, OneThenIsRead, OneThenOfText, GivingIsRead, LastIsRead, LastOfText, OptionalIsRead, EachIsRead, EachOfText, AddingIsRead, ManyIsRead}
 use Rattle.token_cursor.proofs.Results.{through}
