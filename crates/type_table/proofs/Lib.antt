@@ -1,0 +1,10 @@
+pub mod Lists
+pub mod Numbered
+pub mod Once
+pub mod Links
+pub mod Ancestors
+pub mod RowSteps
+pub mod Bridge
+pub mod MemberSteps
+pub mod Worlds
+pub mod Fitting

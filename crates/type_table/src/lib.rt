@@ -1,0 +1,24 @@
+//! The types and the objects of a task by number.
+//!
+//! A table is made once of the declarations of types and objects, and answers by hash and by rows
+//! that are closed then. Types stand under `object` in a hierarchy, as in PDDL 1.2 (McDermott et al.
+//! 1998).
+#![tactic(auto)]
+
+mod closure;
+mod hierarchy;
+mod laws;
+mod link;
+mod members;
+mod names;
+mod objects;
+mod refusal;
+mod rows;
+mod table;
+
+pub use laws::type_laws;
+pub use refusal::TypeRefusal;
+pub use table::TypeTable;
+
+#[cfg(test)]
+mod tests;
