@@ -21,7 +21,8 @@ pub(crate) fn kinds(
 ) -> Result<List<u32>, AllocError>
     requires none { names.old ≡ [] }
     requires known { IsTrue (list_all (has_kind types.now) objects.now) }
-    ensures names { IfOk result (λ _. names.new ≡ map (λ (o : ObjectDecl). o.name) (once objects.now)) }
+    ensures names { IfOk result
+        (λ _. names.new ≡ map (λ (o : ObjectDecl). o.name) (once objects.now)) }
     ensures kinds { IfOk result (λ kinds. AllZip (IsKindOf types.now) kinds (once objects.now)) }
 {
     let mut kinds = Vec::new(alloc);
