@@ -5,9 +5,13 @@ use Rattle.decision_process.specs.Backup.{floor, ceiling}
 use Rattle.decision_process.specs.Rounded.{down, up, plain_low, plain_high}
 use Rattle.decision_process.specs.Coin.{Side, heads, tails, shows, coin, starts}
 use Rattle.decision_process.specs.Process.{Outcome, CostsAtLeast}
+use Rattle.ground_model.specs.Coin as ground
+use Rattle.ground_model.specs.Steps.{ground_process, ground_starts}
+use Rattle.ground_model.proofs.Coin.{coin_is_ground_problem}
 use Rattle.iteration_progress.specs.Width.{IsNarrow}
 use Rattle.iteration_progress.specs.Coin.{low_after, high_after}
 use Rattle.iteration_progress.proofs.Means.{interval_narrows}
+use Rattle.iteration_progress.proofs.Problems.{ground_interval_narrows}
 
 down_at_heads : (n : ℕ) → down coin n heads ≡ 0
 down_at_heads zero = refl
@@ -49,3 +53,10 @@ interval_after_504_rounds n later =
     few_units (plain_low coin starts 1 n) (plain_high coin starts 1 n)
     (interval_narrows coin (omega arith) (λ move side is_open. refl) 999999 21 flips_cost_a_million (omega arith) 24 n (omega arith)
     starts 1 (omega arith) refl)
+
+-- so it is for the coin as a ground problem
+pub ground_interval_after_504_rounds : (n : ℕ) → 504 ≤ n
+    → plain_high (ground_process ground.coin) (ground_starts ground.coin) 1 n ≤ plain_low (ground_process ground.coin) (ground_starts ground.coin) 1 n + 22
+ground_interval_after_504_rounds n later =
+    few_units (plain_low (ground_process ground.coin) (ground_starts ground.coin) 1 n) (plain_high (ground_process ground.coin) (ground_starts ground.coin) 1 n)
+    (ground_interval_narrows ground.coin coin_is_ground_problem 999999 21 (omega arith) (omega arith) 24 n (omega arith))

@@ -4,4 +4,5 @@ pub mod Attained
 pub mod Progress
 pub mod Means
 pub mod Tasks
+pub mod Problems
 pub mod Coin

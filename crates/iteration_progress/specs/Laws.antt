@@ -5,6 +5,8 @@
 --     IntervalNarrows        those of the starts, and 2 more, since their means are rounded
 --     TaskNarrows, TaskIntervalNarrows
 --                            the same of a planning task, with its least step cost
+--     GroundNarrows, GroundIntervalNarrows
+--                            the same of a ground problem, with the least cost of its choices
 use Rattle.std.specs.Prelude.{◌≡◌, ℕ, ◌+◌, ◌*◌, ◌<◌, ◌≤◌, List}
 use Rattle.weighted.specs.Mean.{total}
 use Rattle.decision_process.specs.Process.{Process, Start, HasDenominator, CostsAtLeast}
@@ -13,6 +15,9 @@ use Rattle.ppddl_model.specs.declared.tree.Task.{Task}
 use Rattle.ppddl_model.specs.Chances.{HasProperChances, HasProperStarts, HasPositiveDenominators}
 use Rattle.ppddl_model.specs.State.{State}
 use Rattle.ppddl_model.specs.Steps.{Charges, process, least_step_cost, starts, start_den}
+use Rattle.ground_model.specs.Ground.{Ground}
+use Rattle.ground_model.specs.Packed as ground
+use Rattle.ground_model.specs.Steps.{ground_process, ground_starts, least_choice_cost}
 use Rattle.iteration_progress.specs.Width.{IsNarrow}
 
 module _ {S A : Type 0} (p : Process S A) where
@@ -42,3 +47,16 @@ module _ (task : Task) (charges : Charges) where
       → IsNarrow charges.penalty c m
       (plain_low (process task charges) (starts task) (start_den task) n + 2)
       (plain_high (process task charges) (starts task) (start_den task) n)
+
+module _ (g : Ground) where
+  abbrev pub GroundNarrows : Type 0
+  GroundNarrows = (c N : ℕ) → c + 1 ≤ least_choice_cost g
+      → 2 * g.penalty ≤ N * c → (m n : ℕ) → m * N ≤ n → (s : ground.State)
+      → IsNarrow g.penalty c m (down (ground_process g) n s) (up (ground_process g) n s)
+
+  abbrev pub GroundIntervalNarrows : Type 0
+  GroundIntervalNarrows = (c N : ℕ) → c + 1 ≤ least_choice_cost g
+      → 2 * g.penalty ≤ N * c → (m n : ℕ) → m * N ≤ n
+      → IsNarrow g.penalty c m
+      (plain_low (ground_process g) (ground_starts g) g.start_den n + 2)
+      (plain_high (ground_process g) (ground_starts g) g.start_den n)

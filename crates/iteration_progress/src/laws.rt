@@ -4,7 +4,10 @@ ghost use Rattle.decision_process.specs.Process.{Process};
 ghost use Rattle.ppddl_model.specs.declared.tree.Task.{Task};
 ghost use Rattle.ppddl_model.specs.Steps.{Charges};
 ghost use Rattle.iteration_progress.specs.Laws.{UpNarrowsToDown, IntervalNarrows};
+ghost use Rattle.ground_model.specs.Ground.{Ground};
+ghost use Rattle.ground_model.specs.Invariant.{IsGroundProblem};
 ghost use Rattle.iteration_progress.specs.Laws.{TaskNarrows, TaskIntervalNarrows};
+ghost use Rattle.iteration_progress.specs.Laws.{GroundNarrows, GroundIntervalNarrows};
 
 /// For every process: the bounds of each state, and the interval of weighted starts.
 pub fn progress_laws<S, A>()
@@ -16,4 +19,10 @@ pub fn progress_laws<S, A>()
 pub fn task_progress_laws()
     ensures states { (task : Task) (charges : Charges) → TaskNarrows task charges }
     ensures starts { (task : Task) (charges : Charges) → TaskIntervalNarrows task charges }
+{}
+
+/// The same of every ground problem, with the least cost of its choices.
+pub fn ground_progress_laws()
+    ensures states { (g : Ground) → IsGroundProblem g → GroundNarrows g }
+    ensures starts { (g : Ground) → IsGroundProblem g → GroundIntervalNarrows g }
 {}

@@ -3,4 +3,4 @@
 
 mod laws;
 
-pub use laws::{progress_laws, task_progress_laws};
+pub use laws::{ground_progress_laws, progress_laws, task_progress_laws};
