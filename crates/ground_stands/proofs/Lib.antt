@@ -1,0 +1,5 @@
+pub mod Lists
+pub mod Texts
+pub mod Standing
+pub mod Same
+pub mod Coin
