@@ -137,31 +137,30 @@ module _ (g : Ground) (task : Task) (charges : Charges) (is : IsGroundOf g task 
       (map (λ (x : Entry). record { weight = x.weight; state = x.adds })
       (products_of (map (item_outcomes (common_denominator task)) task.problem.init))) x inside
 
-module _ (g : Ground) (task : Task) (charges : Charges) where
-  pub is_carried : laws.IsCarried g task charges
-  is_carried is = record {
-    den_positive = den_positive g is.is_problem;
-    den_positive_there = step_den-pos task is.denominators;
-    penalties = is.stands.penalty;
-    goals = λ s inside. is.stands.goals s inside;
-    like = λ s inside off. like g task charges is s inside;
-  }
+pub is_carried : laws.IsCarried
+is_carried g task charges is = record {
+  den_positive = den_positive g is.is_problem;
+  den_positive_there = step_den-pos task is.denominators;
+  penalties = is.stands.penalty;
+  goals = λ s inside. is.stands.goals s inside;
+  like = λ s inside off. like g task charges is s inside;
+}
 
-  pub starts_are_carried : laws.StartsAreCarried g task charges
-  starts_are_carried is = record {
-    den_positive = start_den_positive g is.is_problem;
-    den_positive_there = start_den-pos task is.denominators;
-    is_valid = starts_are_inside g is.is_problem;
-    chances = is.stands.starts;
-  }
+pub starts_are_carried : laws.StartsAreCarried
+starts_are_carried g task charges is = record {
+  den_positive = start_den_positive g is.is_problem;
+  den_positive_there = start_den-pos task is.denominators;
+  is_valid = starts_are_inside g is.is_problem;
+  chances = is.stands.starts;
+}
 
-  pub weights_are_positive : laws.OutcomesHaveWeight g task charges
-  weights_are_positive is = record {
-    steps = λ s inside off code chosen o outcome. outcomes_have_weight g is.is_problem code s o outcome;
-    steps_there = λ s inside off i chosen o outcome. step_weighs g task charges is i (state_of g task s) o outcome;
-    starts_here = starts_have_weight g is.is_problem;
-    starts_there = start_weighs g task charges is;
-  }
+pub weights_are_positive : laws.OutcomesHaveWeight
+weights_are_positive g task charges is = record {
+  steps = λ s inside off code chosen o outcome. outcomes_have_weight g is.is_problem code s o outcome;
+  steps_there = λ s inside off i chosen o outcome. step_weighs g task charges is i (state_of g task s) o outcome;
+  starts_here = starts_have_weight g is.is_problem;
+  starts_there = start_weighs g task charges is;
+}
 
-  pub states_are_found : laws.StatesAreFound g task charges
-  states_are_found is s inside = is_found_again g task charges is s inside
+pub states_are_found : laws.StatesAreFound
+states_are_found g task charges is s inside = is_found_again g task charges is s inside

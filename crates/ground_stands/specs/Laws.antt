@@ -33,93 +33,92 @@ use Rattle.ground_model.specs.Ground.{Ground}
 use Rattle.ground_model.specs.Steps.{den_of, ground_process, ground_starts}
 use Rattle.ground_stands.specs.Stands.{IsInside, state_of, packed_of, by_atoms, IsGroundOf}
 
-module _ (g : Ground) (task : Task) (charges : Charges) where
-  abbrev pub IsCarried : Type 0
-  IsCarried = IsGroundOf g task charges → IsHomomorphism (ground_process g) (process task charges) (by_atoms g task)
+abbrev pub IsCarried : Type 0
+IsCarried = (g : Ground) (task : Task) (charges : Charges) → IsGroundOf g task charges → IsHomomorphism (ground_process g) (process task charges) (by_atoms g task)
 
-  abbrev pub StartsAreCarried : Type 0
-  StartsAreCarried = IsGroundOf g task charges
-      → AreStartsOf (by_atoms g task) (ground_starts g) g.start_den (starts task) (start_den task)
+abbrev pub StartsAreCarried : Type 0
+StartsAreCarried = (g : Ground) (task : Task) (charges : Charges) → IsGroundOf g task charges
+    → AreStartsOf (by_atoms g task) (ground_starts g) g.start_den (starts task) (start_den task)
 
-  abbrev pub OutcomesHaveWeight : Type 0
-  OutcomesHaveWeight = IsGroundOf g task charges
-      → HasPositiveWeights (ground_process g) (process task charges) (by_atoms g task) (ground_starts g) (starts task)
+abbrev pub OutcomesHaveWeight : Type 0
+OutcomesHaveWeight = (g : Ground) (task : Task) (charges : Charges) → IsGroundOf g task charges
+    → HasPositiveWeights (ground_process g) (process task charges) (by_atoms g task) (ground_starts g) (starts task)
 
-  abbrev pub StatesAreFound : Type 0
-  StatesAreFound = IsGroundOf g task charges → IsInverse (by_atoms g task) (packed_of g task)
+abbrev pub StatesAreFound : Type 0
+StatesAreFound = (g : Ground) (task : Task) (charges : Charges) → IsGroundOf g task charges → IsInverse (by_atoms g task) (packed_of g task)
 
-  -- ---- costs
+-- ---- costs
 
-  abbrev pub SameLeast : Type 0
-  SameLeast = IsGroundOf g task charges → (n : ℕ) (s : packed.State) → IsInside g task s
-      → least (ground_process g) n s * step_den task ^ n
-      ≡ least (process task charges) n (state_of g task s) * den_of g.actions ^ n
+abbrev pub SameLeast : Type 0
+SameLeast = (g : Ground) (task : Task) (charges : Charges) → IsGroundOf g task charges → (n : ℕ) (s : packed.State) → IsInside g task s
+    → least (ground_process g) n s * step_den task ^ n
+    ≡ least (process task charges) n (state_of g task s) * den_of g.actions ^ n
 
-  abbrev pub SameSpend : Type 0
-  SameSpend = IsGroundOf g task charges → (policy : packed.State → Option ℕ) (policy' : State → Option Instance)
-      → IsPolicyOf (ground_process g) (by_atoms g task) policy policy'
-      → (n : ℕ) (s : packed.State) → IsInside g task s
-      → spend (ground_process g) policy n s * step_den task ^ n
-      ≡ spend (process task charges) policy' n (state_of g task s) * den_of g.actions ^ n
+abbrev pub SameSpend : Type 0
+SameSpend = (g : Ground) (task : Task) (charges : Charges) → IsGroundOf g task charges → (policy : packed.State → Option ℕ) (policy' : State → Option Instance)
+    → IsPolicyOf (ground_process g) (by_atoms g task) policy policy'
+    → (n : ℕ) (s : packed.State) → IsInside g task s
+    → spend (ground_process g) policy n s * step_den task ^ n
+    ≡ spend (process task charges) policy' n (state_of g task s) * den_of g.actions ^ n
 
-  abbrev pub SameStill : Type 0
-  SameStill = IsGroundOf g task charges → (policy : packed.State → Option ℕ) (policy' : State → Option Instance)
-      → IsPolicyOf (ground_process g) (by_atoms g task) policy policy'
-      → (n : ℕ) (s : packed.State) → IsInside g task s
-      → still (ground_process g) policy n s * step_den task ^ n
-      ≡ still (process task charges) policy' n (state_of g task s) * den_of g.actions ^ n
+abbrev pub SameStill : Type 0
+SameStill = (g : Ground) (task : Task) (charges : Charges) → IsGroundOf g task charges → (policy : packed.State → Option ℕ) (policy' : State → Option Instance)
+    → IsPolicyOf (ground_process g) (by_atoms g task) policy policy'
+    → (n : ℕ) (s : packed.State) → IsInside g task s
+    → still (ground_process g) policy n s * step_den task ^ n
+    ≡ still (process task charges) policy' n (state_of g task s) * den_of g.actions ^ n
 
-  abbrev pub PlansAreCarried : Type 0
-  PlansAreCarried = IsGroundOf g task charges
-      → (plan : Plan ℕ) (s : packed.State) → IsInside g task s → Fits (ground_process g) plan s
-      → (plan' : Plan Instance) × IsAsGood (ground_process g) plan s (process task charges) plan' (state_of g task s)
+abbrev pub PlansAreCarried : Type 0
+PlansAreCarried = (g : Ground) (task : Task) (charges : Charges) → IsGroundOf g task charges
+    → (plan : Plan ℕ) (s : packed.State) → IsInside g task s → Fits (ground_process g) plan s
+    → (plan' : Plan Instance) × IsAsGood (ground_process g) plan s (process task charges) plan' (state_of g task s)
 
-  abbrev pub PlansAreFound : Type 0
-  PlansAreFound = IsGroundOf g task charges
-      → (plan' : Plan Instance) (s : packed.State) → IsInside g task s → Fits (process task charges) plan' (state_of g task s)
-      → (plan : Plan ℕ) × IsAsGood (process task charges) plan' (state_of g task s) (ground_process g) plan s
+abbrev pub PlansAreFound : Type 0
+PlansAreFound = (g : Ground) (task : Task) (charges : Charges) → IsGroundOf g task charges
+    → (plan' : Plan Instance) (s : packed.State) → IsInside g task s → Fits (process task charges) plan' (state_of g task s)
+    → (plan : Plan ℕ) × IsAsGood (process task charges) plan' (state_of g task s) (ground_process g) plan s
 
-  -- ---- values
+-- ---- values
 
-  abbrev pub SameDown : Type 0
-  SameDown = IsGroundOf g task charges → (k : ℕ) (s : packed.State) → IsInside g task s
-      → down (ground_process g) k s ≡ down (process task charges) k (state_of g task s)
+abbrev pub SameDown : Type 0
+SameDown = (g : Ground) (task : Task) (charges : Charges) → IsGroundOf g task charges → (k : ℕ) (s : packed.State) → IsInside g task s
+    → down (ground_process g) k s ≡ down (process task charges) k (state_of g task s)
 
-  abbrev pub SameUp : Type 0
-  SameUp = IsGroundOf g task charges → (k : ℕ) (s : packed.State) → IsInside g task s
-      → up (ground_process g) k s ≡ up (process task charges) k (state_of g task s)
+abbrev pub SameUp : Type 0
+SameUp = (g : Ground) (task : Task) (charges : Charges) → IsGroundOf g task charges → (k : ℕ) (s : packed.State) → IsInside g task s
+    → up (ground_process g) k s ≡ up (process task charges) k (state_of g task s)
 
-  abbrev pub SamePlain : Type 0
-  SamePlain = IsGroundOf g task charges → (k : ℕ)
-      → (plain_low (ground_process g) (ground_starts g) g.start_den k
-      ≡ plain_low (process task charges) (starts task) (start_den task) k)
-      × (plain_high (ground_process g) (ground_starts g) g.start_den k
-      ≡ plain_high (process task charges) (starts task) (start_den task) k)
+abbrev pub SamePlain : Type 0
+SamePlain = (g : Ground) (task : Task) (charges : Charges) → IsGroundOf g task charges → (k : ℕ)
+    → (plain_low (ground_process g) (ground_starts g) g.start_den k
+    ≡ plain_low (process task charges) (starts task) (start_den task) k)
+    × (plain_high (ground_process g) (ground_starts g) g.start_den k
+    ≡ plain_high (process task charges) (starts task) (start_den task) k)
 
-  abbrev pub SameBalance : Type 0
-  SameBalance = IsGroundOf g task charges
-      → (low high : packed.State → ℕ) (act : packed.State → Option ℕ) (low' high' : State → ℕ) (act' : State → Option Instance)
-      → AreReadingsOf (by_atoms g task) low low' → AreReadingsOf (by_atoms g task) high high'
-      → (s : packed.State) → IsInside g task s
-      → ((ground_process g).goal s ≡ false → IsActOf (by_atoms g task) (act s) (act' (state_of g task s)))
-      → IsBalancedAt (ground_process g) low high act s ↔ IsBalancedAt (process task charges) low' high' act' (state_of g task s)
+abbrev pub SameBalance : Type 0
+SameBalance = (g : Ground) (task : Task) (charges : Charges) → IsGroundOf g task charges
+    → (low high : packed.State → ℕ) (act : packed.State → Option ℕ) (low' high' : State → ℕ) (act' : State → Option Instance)
+    → AreReadingsOf (by_atoms g task) low low' → AreReadingsOf (by_atoms g task) high high'
+    → (s : packed.State) → IsInside g task s
+    → ((ground_process g).goal s ≡ false → IsActOf (by_atoms g task) (act s) (act' (state_of g task s)))
+    → IsBalancedAt (ground_process g) low high act s ↔ IsBalancedAt (process task charges) low' high' act' (state_of g task s)
 
-  abbrev pub SameCertificate : Type 0
-  SameCertificate = IsGroundOf g task charges
-      → (c : Certificate packed.State ℕ) (c' : Certificate State Instance) → IsCertificateOf (by_atoms g task) c c'
-      → IsBalancedCertificate (ground_process g) packed.same_state (ground_starts g) g.start_den c
-      ↔ IsBalancedCertificate (process task charges) same_state (starts task) (start_den task) c'
+abbrev pub SameCertificate : Type 0
+SameCertificate = (g : Ground) (task : Task) (charges : Charges) → IsGroundOf g task charges
+    → (c : Certificate packed.State ℕ) (c' : Certificate State Instance) → IsCertificateOf (by_atoms g task) c c'
+    → IsBalancedCertificate (ground_process g) packed.same_state (ground_starts g) g.start_den c
+    ↔ IsBalancedCertificate (process task charges) same_state (starts task) (start_den task) c'
 
-  -- ---- levels
+-- ---- levels
 
-  abbrev pub NearIsCarried : Type 0
-  NearIsCarried = IsGroundOf g task charges → (d : ℕ) (s : packed.State) → Contains (near (ground_process g) (ground_starts g) d) s
-      → IsInside g task s × Contains (near (process task charges) (starts task) d) (state_of g task s)
+abbrev pub NearIsCarried : Type 0
+NearIsCarried = (g : Ground) (task : Task) (charges : Charges) → IsGroundOf g task charges → (d : ℕ) (s : packed.State) → Contains (near (ground_process g) (ground_starts g) d) s
+    → IsInside g task s × Contains (near (process task charges) (starts task) d) (state_of g task s)
 
-  abbrev pub NearIsFound : Type 0
-  NearIsFound = IsGroundOf g task charges → (d : ℕ) (t : State) → Contains (near (process task charges) (starts task) d) t
-      → (s : packed.State) × Contains (near (ground_process g) (ground_starts g) d) s × (state_of g task s ≡ t)
+abbrev pub NearIsFound : Type 0
+NearIsFound = (g : Ground) (task : Task) (charges : Charges) → IsGroundOf g task charges → (d : ℕ) (t : State) → Contains (near (process task charges) (starts task) d) t
+    → (s : packed.State) × Contains (near (ground_process g) (ground_starts g) d) s × (state_of g task s ≡ t)
 
-  abbrev pub SameDepth : Type 0
-  SameDepth = IsGroundOf g task charges → (k : ℕ) (d : Option ℕ)
-      → IsDepthWithin (ground_process g) (ground_starts g) k d ↔ IsDepthWithin (process task charges) (starts task) k d
+abbrev pub SameDepth : Type 0
+SameDepth = (g : Ground) (task : Task) (charges : Charges) → IsGroundOf g task charges → (k : ℕ) (d : Option ℕ)
+    → IsDepthWithin (ground_process g) (ground_starts g) k d ↔ IsDepthWithin (process task charges) (starts task) k d
