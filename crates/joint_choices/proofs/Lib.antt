@@ -1,0 +1,14 @@
+mod Lists
+mod Members
+mod Same
+mod Changes
+mod Conditions
+mod Shares
+mod Weights
+mod Law
+mod Reduced
+mod Next
+mod Step
+mod RisingLists
+mod Fitting
+mod Invariant
