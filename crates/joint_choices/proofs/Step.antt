@@ -3,6 +3,7 @@ use Rattle.std.proofs.Common.{◌≡◌, ℕ, ◌+◌, ◌-◌, ◌*◌, ◌^◌
 use Rattle.std.proofs.Common.{refl, sym, ap, ◌∙◌, arith}
 use Rattle.std.specs.Prelude.{All, flat_map}
 use Rattle.std.specs.Int.{◌∣◌}
+use Rattle.std.proofs.Math.Nat.{mul_assoc, mul_right_comm}
 use Rattle.std.proofs.lemmas.Nat.{pow-add}
 use Rattle.std.proofs.lemmas.List.Elements.{All-nil, All-cons, All-weaker, All-contains}
 use Rattle.exact_fraction.proofs.DivisorLemmas.{IsLeastMultipleOf-common_multiple}
@@ -20,10 +21,8 @@ use Rattle.ppddl_model.specs.Outcomes.{Entry, outcomes}
 use Rattle.ppddl_model.specs.Steps as task
 use Rattle.ppddl_model.specs.Steps.{Charges, Instance, world, base_cost, step_den}
 use Rattle.ground_model.specs.declared.action.Choice.{Choice}
-use Rattle.ground_model.specs.Packed as packed
 use Rattle.ground_model.specs.Packed.{has_bit}
 use Rattle.ground_model.specs.Choices.{next_state, cost_of}
-use Rattle.ground_model.specs.Steps.{outcome_of}
 use Rattle.joint_choices.specs.Numbering.{Numbering}
 use Rattle.joint_choices.specs.Joint.{weight_of, joint}
 use Rattle.joint_choices.specs.Laws.{JointIsStep}
@@ -46,14 +45,12 @@ dens_divide task =
     (All-append_left (λ d. d ∣ common_denominator task) of_actions of_init
     (IsLeastMultipleOf-common_multiple (of_actions ++ of_init)).members)
 
-both_scaled : (m e p q d k : ℕ) → m * p ≡ e * d → m * k * (p * q) ≡ e * q * (d * k)
-both_scaled m e p q d k h =
-    let a : m * k * (p * q) ≡ (m * p) * (k * q) = grind arith in
-    let b : (e * d) * (k * q) ≡ e * q * (d * k) = grind arith in
-    a ∙ ap (λ t. t * (k * q)) h ∙ b
+one_scaled : (m e p q d : ℕ) → m * p ≡ e * d → m * (p * q) ≡ e * q * d
+one_scaled m e p q d h =
+    sym (mul_assoc m p q) ∙ ap (λ t. t * q) h ∙ mul_right_comm e d q
 
 pub step_law : (t : Task) (charges : Charges) (n : Numbering) → JointIsStep t charges n
-step_law t charges n sums order differ view is s inside i acts describes fit scale v =
+step_law t charges n sums order differ view is s inside i acts describes fit v =
     let w : World = world t in
     let den : ℕ = common_denominator t in
     let base : ℕ = base_cost t charges in
@@ -69,18 +66,14 @@ step_law t charges n sums order differ view is s inside i acts describes fit sca
     = All-contains (λ (a : Action). All (λ d. d ∣ den) (denominators a.effect)) t.domain.actions i.action (dens_divide t) acts in
     let here : Choice → State × ℕ = λ c. (view (next_state s c), cost_of (has_bit s) c) in
     let there : Entry → State × ℕ = λ x. (task.after (view s) x, x.cost + base) in
-    let shown : Outcome packed.State → State × ℕ = λ o. (view o.next, o.cost) in
     let pair : Outcome State → State × ℕ = λ o. (o.next, o.cost) in
-    let left : mean (λ (o : Outcome packed.State). o.weight) shown v (map (outcome_of scale s) j.list) ≡ mean weight_of here v j.list * scale
-    = mean-scaled weight_of here (λ (o : Outcome packed.State). o.weight) shown scale (outcome_of scale s) j.list
-    (record { weights = λ c _. refl; keys = λ c _. refl }) v in
     let right : mean (λ (o : Outcome State). o.weight) pair v (task.step t charges i (view s))
     ≡ mean (λ (x : Entry). x.weight) there v es * den ^ (most - m)
     = mean-positive (λ (o : Outcome State). o.weight) pair v (map (task.outcome_of t charges i (view s)) es)
     ∙ mean-scaled (λ (x : Entry). x.weight) there (λ (o : Outcome State). o.weight) pair (den ^ (most - m))
     (task.outcome_of t charges i (view s)) es (record { weights = λ x _. refl; keys = λ x _. refl }) v in
     let whole : most ≡ m + (most - m) = omega (arith, within) in
-    ap (λ x. x * step_den t) left ∙ ap (λ x. mean weight_of here v j.list * scale * x) (ap (λ k. den ^ k) whole ∙ pow-add den m (most - m))
-    ∙ both_scaled (mean weight_of here v j.list) (mean (λ (x : Entry). x.weight) there v es) (den ^ m) (den ^ (most - m)) j.den scale
+    ap (λ x. mean weight_of here v j.list * x) (ap (λ k. den ^ k) whole ∙ pow-add den m (most - m))
+    ∙ one_scaled (mean weight_of here v j.list) (mean (λ (x : Entry). x.weight) there v es) (den ^ m) (den ^ (most - m)) j.den
     (next_law w n order differ view is s inside i.action.effect fair den divide i.binding describes base fit v)
-    ∙ ap (λ x. x * (j.den * scale)) (sym right)
+    ∙ ap (λ x. x * j.den) (sym right)

@@ -8,8 +8,8 @@
 --     JointIsNext                so each pair of a next state and a cost has
 --     JointIsStep                and has it by the step of an instance of a task
 --     JointMeetsInvariant        within the limits, joint choices are those of a ground action
-use Rattle.std.specs.Prelude.{◌≡◌, ◌≢◌, ℕ, ◌+◌, ◌*◌, ◌^◌, ◌<◌, ◌≤◌, Bool, true, IsTrue, All, AllPairs}
-use Rattle.std.specs.Prelude.{List, map, length, Contains}
+use Rattle.std.specs.Prelude.{◌≡◌, ◌≢◌, ℕ, ◌+◌, ◌^◌, ◌<◌, ◌≤◌, Bool, true, IsTrue, All, AllPairs}
+use Rattle.std.specs.Prelude.{List, length, Contains}
 use Rattle.std.specs.Int.{◌∣◌}
 use Rattle.weighted.specs.Mean.{total, IsAlike}
 use Rattle.decision_process.specs.Process.{Outcome}
@@ -32,7 +32,6 @@ use Rattle.ground_model.specs.Packed as packed
 use Rattle.ground_model.specs.Packed.{has_bit, is_inside}
 use Rattle.ground_model.specs.Truth.{truth}
 use Rattle.ground_model.specs.Choices.{next_state, cost_of}
-use Rattle.ground_model.specs.Steps.{outcome_of}
 use Rattle.ground_model.specs.Invariant.{IsDistribution, IsChoice}
 use Rattle.joint_choices.specs.Numbering.{Numbering, ground_condition}
 use Rattle.joint_choices.specs.Same.{same_choice}
@@ -88,7 +87,6 @@ module _ (task : Task) (charges : Charges) (n : Numbering) where
   abbrev pub joint_of : Instance → Joint
   joint_of i = joint (world task) n i.action.effect i.binding (base_cost task charges)
 
-  -- the weights of the ground action are multiplied by scale, as in a step of its problem
   abbrev pub JointIsStep : Type 0
   JointIsStep = AllSumWithinOne task
       → (order : List GroundAtom) → AllPairs (λ x y. x ≢ y) order
@@ -96,8 +94,7 @@ module _ (task : Task) (charges : Charges) (n : Numbering) where
       → (s : packed.State) → IsTrue (is_inside (length order) s)
       → (i : Instance) → Contains task.domain.actions i.action
       → Describes (world task) n order (has_bit s) (view s) i.action.effect i.binding
-      → All (IsChoice (length order)) (joint_of i).list → (scale : ℕ)
-      → IsAlike {X = State × ℕ} (λ (o : Outcome packed.State). o.weight)
-      (λ o. (view o.next, o.cost)) (λ (o : Outcome State). o.weight) (λ o. (o.next, o.cost))
-      (map (outcome_of scale s) (joint_of i).list) ((joint_of i).den * scale)
-      (step task charges i (view s)) (step_den task)
+      → All (IsChoice (length order)) (joint_of i).list
+      → IsAlike {X = State × ℕ} weight_of (λ c. (view (next_state s c), cost_of (has_bit s) c))
+      (λ (o : Outcome State). o.weight) (λ o. (o.next, o.cost))
+      (joint_of i).list (joint_of i).den (step task charges i (view s)) (step_den task)
