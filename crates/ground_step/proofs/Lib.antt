@@ -1,0 +1,6 @@
+pub mod Truth
+pub mod Names
+pub mod Packed
+pub mod Edits
+pub mod Outcomes
+pub mod Ranges

@@ -1,0 +1,6 @@
+pub mod Edits
+pub mod Steps
+pub mod Atoms
+pub mod Names
+pub mod Hash
+pub mod Laws

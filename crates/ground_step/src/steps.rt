@@ -1,0 +1,79 @@
+//! The steps of a ground problem.
+
+ghost use Rattle.std.specs.Prelude.{◌≡◌, ◌<◌, ◌≤◌, Some, length, option_map};
+ghost use Rattle.std.specs.Prelude.{◌+◌, ◌^◌};
+ghost use Rattle.ground_model.specs.Packed.{has_bit};
+ghost use Rattle.ground_model.specs.Choices.{active_cost, cost_of, next_state};
+ghost use Rattle.ground_model.specs.Steps.{is_open, ground_process};
+ghost use Rattle.ground_step.specs.Steps.{choices_of, next_at, cost_at};
+
+use crate::changes::{add_all, add_guarded, copy_bits, delete_all, delete_guarded};
+use crate::conditions::holds;
+use ground_model::{Choice, GroundProblem, Guarded, MOST_CHOICE_COST, State};
+
+/// Whether the action of this code is open in a state.
+pub fn applicable(problem: &GroundProblem, action: u16, state: &State) -> bool
+    requires { action < length problem.now.actions }
+    ensures { result ≡ is_open problem.now action state.now }
+{
+    holds(&problem.actions()[action as usize].condition, state)
+}
+
+/// Whether a state is a goal.
+pub fn is_goal(problem: &GroundProblem, state: &State) -> bool
+    ensures { result ≡ (ground_process problem.now).goal state.now }
+{
+    holds(problem.goal(), state)
+}
+
+/// The cost with that of the guarded parts whose condition holds in the state before.
+fn cost_guarded(cost: u64, parts: &[Guarded], before: &State) -> u64
+    requires { cost + active_cost (has_bit before.now) parts.now < 2 ^ 64 }
+    ensures { result ≡ cost + active_cost (has_bit before.now) parts.now }
+{
+    let mut sum = cost;
+    for part in parts {
+        if holds(&part.condition, before) {
+            sum += part.cost;
+        }
+    }
+    sum
+}
+
+/// Writes the state after a choice into a state of the same length, and answers what the choice costs,
+/// in micro-units.
+///
+/// Guarded parts act where their condition holds in the state before, and all deletes act before all
+/// adds (PDDL 2.1, Fox and Long 2003, on conditional effects).
+pub fn apply(choice: &Choice, state: &State, into: &mut State) -> u64
+    requires fits { length into.old ≡ length state.now }
+    requires cost { cost_of (has_bit state.now) choice.now ≤ MOST_CHOICE_COST }
+    ensures next { into.new ≡ next_state state.now choice.now }
+    ensures cost { result ≡ cost_of (has_bit state.now) choice.now }
+{
+    let guarded = choice.guarded.as_slice();
+    copy_bits(state, into);
+    delete_all(into, choice.deletes.as_slice());
+    delete_guarded(into, guarded, state);
+    add_all(into, choice.adds.as_slice());
+    add_guarded(into, guarded, state);
+    cost_guarded(choice.cost, guarded, state)
+}
+
+/// Writes the state after a choice of an action into a state of the same length, and answers what the
+/// outcome costs, in micro-units. The choice is a place among those of the action, from 0.
+pub fn successor(
+    problem: &GroundProblem,
+    action: u16,
+    choice: u16,
+    state: &State,
+    into: &mut State,
+) -> u64
+    requires place { choice < length (choices_of problem.now action) }
+    requires fits { length into.old ≡ length state.now }
+    ensures next { next_at problem.now action choice state.now ≡ Some into.new }
+    ensures cost { cost_at problem.now action choice state.now ≡ Some result }
+{
+    let action = &problem.actions()[action as usize];
+    apply(&action.choices.as_slice()[choice as usize], state, into)
+}
