@@ -12,12 +12,13 @@ use Rattle.ppddl_model.specs.State.{same_name, GroundAtom, same_atom, has}
 use Rattle.ppddl_model.specs.Changing.{changing_atoms, has_text, is_changing, is_fact}
 use Rattle.ppddl_model.specs.Steps.{Charges}
 use Rattle.ppddl_model.proofs.States.{same_name-Decides, same_atom-Decides}
-use Rattle.ppddl_model.proofs.Fixed.{has-state_of_texts}
+use Rattle.ppddl_model.proofs.Fixed.{has-state_of_texts, state_of_texts_agrees}
 use Rattle.ground_model.specs.Packed as packed
 use Rattle.ground_model.specs.Packed.{has_bit, words_for, is_inside}
 use Rattle.ground_model.specs.Ground.{Ground}
 use Rattle.ground_model.proofs.Packed.{same_packed, inside_is_its_bits}
 use Rattle.ground_model.proofs.Rising.{texts_differ}
+use Rattle.ground_stands.specs.Laws as laws
 use Rattle.ground_stands.specs.Stands.{true_texts, has_text_true, IsInside, state_of, packed_of, IsGroundOf}
 
 -- ---- lists
@@ -99,7 +100,7 @@ below_alone n q a b same = elim (cases_lt q n) [
   | inr above ↦ ap (λ z. z && a) (le-ltb q n above) ∙ sym (ap (λ z. z && b) (le-ltb q n above))
 ]
 
-module _ (g : Ground) (task : Task) (charges : Charges) (is : IsGroundOf g task charges) (s : packed.State) where
+module _ (g : Ground) (task : Task) (s : packed.State) where
   abbrev here : List (List ℕ)
   here = true_texts (has_bit s) g.atoms
 
@@ -110,6 +111,29 @@ module _ (g : Ground) (task : Task) (charges : Charges) (is : IsGroundOf g task 
       ∙ first_alone (is_changing task a) (has_text here a) (is_fact task a)
       (any_from (same_atom a) (changing_atoms task) a inside ((same_atom-Decides a a).1 refl))
 
+  place_there : (a : GroundAtom) → Contains (changing_atoms task) a → has (state_of g task s) a ≡ true
+      → (q : ℕ) × (q < length g.atoms) × (has_bit s q ≡ true) × (get_or g.atoms q [] ≡ list_text a)
+  place_there a inside told =
+      let shown = any_finds (same_name (list_text a)) here (sym (has_changing a inside) ∙ told) in
+      let place = true_text_place (has_bit s) g.atoms shown.0 shown.1 in
+      (place.0, place.1, place.2, place.3 ∙ sym ((same_name-Decides (list_text a) shown.0).0 shown.2))
+
+  place_back : (a : GroundAtom) → Contains (changing_atoms task) a → (q : ℕ) → q < length g.atoms → has_bit s q ≡ true
+      → get_or g.atoms q [] ≡ list_text a → has (state_of g task s) a ≡ true
+  place_back a inside q within set its_text =
+      has_changing a inside
+      ∙ any_from (same_name (list_text a)) here (get_or g.atoms q []) (true_text (has_bit s) g.atoms q within set)
+      ((same_name-Decides (list_text a) (get_or g.atoms q [])).1 (sym its_text))
+
+pub changing_by_bits : laws.ChangingByBits
+changing_by_bits g task s a inside =
+    (place_there g task s a inside, λ place. place_back g task s a inside place.0 place.1 place.2 place.3)
+
+pub others_by_facts : laws.OthersByFacts
+others_by_facts g task s a still =
+    (state_of_texts_agrees task (true_texts (has_bit s) g.atoms)).fixed a still
+
+module _ (g : Ground) (task : Task) (charges : Charges) (is : IsGroundOf g task charges) (s : packed.State) where
   abbrev at : ℕ → List ℕ
   at q = get_or g.atoms q []
 
@@ -118,12 +142,10 @@ module _ (g : Ground) (task : Task) (charges : Charges) (is : IsGroundOf g task 
       let found = Contains-map_cases list_text (changing_atoms task) (at q) ((is.stands.atoms (at q)).0 (Contains-get_or g.atoms q [] within)) in
       let a : GroundAtom = found.0 in
       let its_text : list_text a ≡ at q = found.2 in
-      let told : has_text here a ≡ true
-      = any_from (same_name (list_text a)) here (at q) (true_text (has_bit s) g.atoms q within set)
-      ((same_name-Decides (list_text a) (at q)).1 its_text) in
       any_from (λ b. same_name (at q) (list_text b) && has (state_of g task s) b) (changing_atoms task) a found.1
       (and_from (same_name (at q) (list_text a)) (has (state_of g task s) a)
-      ((same_name-Decides (at q) (list_text a)).1 (sym its_text)) (has_changing a found.1 ∙ told))
+      ((same_name-Decides (at q) (list_text a)).1 (sym its_text))
+      (place_back g task s a found.1 q within set (sym its_text)))
 
   bit_back : (q : ℕ) → q < length g.atoms → has_text_true task (state_of g task s) (at q) ≡ true → has_bit s q ≡ true
   bit_back q within told =
@@ -131,10 +153,8 @@ module _ (g : Ground) (task : Task) (charges : Charges) (is : IsGroundOf g task 
       let a : GroundAtom = found.0 in
       let parts = and_parts (same_name (at q) (list_text a)) (has (state_of g task s) a) found.2 in
       let its_text : at q ≡ list_text a = (same_name-Decides (at q) (list_text a)).0 parts.0 in
-      let shown = any_finds (same_name (list_text a)) here (sym (has_changing a found.1) ∙ parts.1) in
-      let place = true_text_place (has_bit s) g.atoms shown.0 shown.1 in
-      let same : at q ≡ at place.0
-      = its_text ∙ (same_name-Decides (list_text a) shown.0).0 shown.2 ∙ sym place.3 in
+      let place = place_there g task s a found.1 parts.1 in
+      let same : at q ≡ at place.0 = its_text ∙ sym place.3 in
       let one : place.0 ≡ q
       = sym (one_place g.atoms q place.0 [] (texts_differ g.atoms is.is_problem.atoms_rise) within place.1 same) in
       subst (λ k. has_bit s k ≡ true) one place.2

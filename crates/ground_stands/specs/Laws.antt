@@ -1,5 +1,7 @@
 -- What a ground problem has in common with the task for which it stands, as statements; each scaled value is over the powers of both
 -- denominators. A packed state inside is spoken of, with the state for which it stands.
+--     ChangingByBits         a changing atom is true in the state for which a packed state stands where a bit of its text is set
+--     OthersByFacts          each other atom is true there where it is a fact
 --     IsCarried              the process of the task is that for which the process of the problem stands
 --     StartsAreCarried       so are the starts
 --     OutcomesHaveWeight     no outcome and no start of either has weight 0
@@ -15,7 +17,8 @@
 --     NearIsCarried, NearIsFound
 --                            the packed states near the starts stand for those near the task's starts, all of them
 --     SameDepth              the depth within which there are at most k states
-use Rattle.std.specs.Prelude.{◌≡◌, ◌↔◌, ℕ, ◌*◌, ◌^◌, false, Option, Contains}
+use Rattle.std.specs.Prelude.{◌≡◌, ◌↔◌, ℕ, ◌*◌, ◌^◌, ◌<◌, true, false, [], length, get_or, Option, Contains}
+use Rattle.plain_list.specs.Texts.{list_text}
 use Rattle.decision_process.specs.Plans.{Plan, Fits}
 use Rattle.decision_process.specs.Policies.{spend, still}
 use Rattle.decision_process.specs.Least.{least}
@@ -26,12 +29,25 @@ use Rattle.decision_process.specs.Levels.{near, IsDepthWithin}
 use Rattle.process_homomorphism.specs.Homomorphism.{IsHomomorphism, AreStartsOf, HasPositiveWeights, IsInverse, AreReadingsOf, IsActOf, IsPolicyOf}
 use Rattle.process_homomorphism.specs.Counterparts.{IsAsGood, IsCertificateOf}
 use Rattle.ppddl_model.specs.declared.tree.Task.{Task}
-use Rattle.ppddl_model.specs.State.{State, same_state}
+use Rattle.ppddl_model.specs.State.{GroundAtom, State, has, same_state}
+use Rattle.ppddl_model.specs.Changing.{changing_atoms, is_changing, is_fact}
 use Rattle.ppddl_model.specs.Steps.{Instance, Charges, step_den, starts, start_den, process}
 use Rattle.ground_model.specs.Packed as packed
+use Rattle.ground_model.specs.Packed.{has_bit}
 use Rattle.ground_model.specs.Ground.{Ground}
 use Rattle.ground_model.specs.Steps.{den_of, ground_process, ground_starts}
 use Rattle.ground_stands.specs.Stands.{IsInside, state_of, packed_of, by_atoms, IsGroundOf}
+
+abbrev pub ChangingByBits : Type 0
+ChangingByBits = (g : Ground) (task : Task) (s : packed.State) (a : GroundAtom) → Contains (changing_atoms task) a
+    → (has (state_of g task s) a ≡ true)
+    ↔ ((q : ℕ) × (q < length g.atoms) × (has_bit s q ≡ true) × (get_or g.atoms q [] ≡ list_text a))
+
+abbrev pub OthersByFacts : Type 0
+OthersByFacts = (g : Ground) (task : Task) (s : packed.State) (a : GroundAtom) → is_changing task a ≡ false
+    → has (state_of g task s) a ≡ is_fact task a
+
+-- ---- the process
 
 abbrev pub IsCarried : Type 0
 IsCarried = (g : Ground) (task : Task) (charges : Charges) → IsGroundOf g task charges → IsHomomorphism (ground_process g) (process task charges) (by_atoms g task)

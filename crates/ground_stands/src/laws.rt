@@ -1,5 +1,6 @@
 //! What a ground problem has in common with the task for which it stands.
 
+ghost use Rattle.ground_stands.specs.Laws.{ChangingByBits, OthersByFacts};
 ghost use Rattle.ground_stands.specs.Laws.{IsCarried, StartsAreCarried};
 ghost use Rattle.ground_stands.specs.Laws.{OutcomesHaveWeight, StatesAreFound};
 ghost use Rattle.ground_stands.specs.Laws.{SameLeast, SameSpend, SameStill};
@@ -7,6 +8,12 @@ ghost use Rattle.ground_stands.specs.Laws.{PlansAreCarried, PlansAreFound};
 ghost use Rattle.ground_stands.specs.Laws.{SameDown, SameUp, SamePlain};
 ghost use Rattle.ground_stands.specs.Laws.{SameBalance, SameCertificate};
 ghost use Rattle.ground_stands.specs.Laws.{NearIsCarried, NearIsFound, SameDepth};
+
+/// The state for which a packed state stands.
+pub fn state_laws()
+    ensures changing { ChangingByBits }
+    ensures others { OthersByFacts }
+{}
 
 /// The process of a ground problem is mapped to that of its task by a homomorphism.
 pub fn stands_laws()

@@ -3,4 +3,4 @@
 
 mod laws;
 
-pub use laws::{same_cost_laws, same_level_laws, same_value_laws, stands_laws};
+pub use laws::{same_cost_laws, same_level_laws, same_value_laws, stands_laws, state_laws};
