@@ -45,7 +45,7 @@ filter_first p p' a (suc n) t above below here gone before others = elim (eqb_te
       ∙ sym (ap (λ b. t ∷ cond b (a ∷ filter p' (range_with_len (a + 1) n)) (filter p' (range_with_len (a + 1) n))) left)
 ]
 
-range-append : (a m n : ℕ) → range_with_len a (m + n) ≡ range_with_len a m ++ range_with_len (a + m) n
+pub range-append : (a m n : ℕ) → range_with_len a (m + n) ≡ range_with_len a m ++ range_with_len (a + m) n
 range-append a zero n =
     let none : zero + n ≡ n = omega arith in
     let same : a ≡ a + zero = omega arith in

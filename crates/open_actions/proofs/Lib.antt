@@ -1,0 +1,7 @@
+pub mod Bits
+pub mod Tests
+pub mod Adding
+pub mod RunSteps
+pub mod Codes
+pub mod Marks
+pub mod Building
