@@ -59,16 +59,16 @@ merged_weigh : (cs : List Choice) → All Weighs (joint.merged cs)
 merged_weigh cs =
     all-with_items Weighs (λ x y here there. omega (arith, here)) [] (positive weight_of cs) (All-nil Weighs) (positive_weigh cs)
 
-product_weigh : (done : List Choice) (css : List (List Choice)) → All Weighs done → All Weighs (product_with done css)
+pub product_weigh : (done : List Choice) (css : List (List Choice)) → All Weighs done → All Weighs (product_with done css)
 product_weigh done [] each = each
 product_weigh done (cs ∷ css) each = product_weigh (with_factor done cs) css (merged_weigh (products joined done cs))
 
-one_weighs : (c : Choice) → 0 < c.weight → All Weighs (c ∷ [])
+pub one_weighs : (c : Choice) → 0 < c.weight → All Weighs (c ∷ [])
 one_weighs c above = All-cons Weighs c [] above (All-nil Weighs)
 
 -- ---- lists are no longer than the longest merged one
 
-product_length : (done : List Choice) (css : List (List Choice))
+pub product_length : (done : List Choice) (css : List (List Choice))
     → length (product_with done css) ≤ max (length done) (widest_with done css)
 product_length done [] = omega arith
 product_length done (cs ∷ css) =
@@ -183,7 +183,7 @@ factor_above zero k above = absurd (omega (arith, above))
 factor_above (suc d) k above = omega arith
 
 -- a weight that is divided
-divided_weighs : (weight g : ℕ) → g ∣ weight → 0 < weight → 0 < weight / g
+pub divided_weighs : (weight g : ℕ) → g ∣ weight → 0 < weight → 0 < weight / g
 divided_weighs weight g divides above = elim (cases_lt 0 (weight / g)) [
   | inl positive ↦ positive
   | inr low ↦

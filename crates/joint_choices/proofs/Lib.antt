@@ -1,14 +1,14 @@
-mod Lists
-mod Members
-mod Same
-mod Changes
-mod Conditions
-mod Shares
-mod Weights
-mod Law
-mod Reduced
-mod Next
-mod Step
-mod RisingLists
-mod Fitting
-mod Invariant
+pub mod Lists
+pub mod Members
+pub mod Same
+pub mod Changes
+pub mod Conditions
+pub mod Shares
+pub mod Weights
+pub mod Law
+pub mod Reduced
+pub mod Next
+pub mod Step
+pub mod RisingLists
+pub mod Fitting
+pub mod Invariant

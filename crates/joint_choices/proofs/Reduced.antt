@@ -30,12 +30,12 @@ use Rattle.joint_choices.proofs.Law.{IsFair, choices_law}
 
 -- ---- the common divisor
 
-divides_start : (d : ℕ) (cs : List Choice) → common_divisor d cs ∣ d
+pub divides_start : (d : ℕ) (cs : List Choice) → common_divisor d cs ∣ d
 divides_start d [] = dvd_refl d
 divides_start d (c ∷ cs) =
     dvd_trans (common_divisor (gcd_of d c.weight) cs) (divides_start (gcd_of d c.weight) cs) (IsGcd-gcd_of d c.weight).0
 
-divides_weights : (d : ℕ) (cs : List Choice) → All (λ (c : Choice). common_divisor d cs ∣ c.weight) cs
+pub divides_weights : (d : ℕ) (cs : List Choice) → All (λ (c : Choice). common_divisor d cs ∣ c.weight) cs
 divides_weights d [] = All-nil (λ (c : Choice). common_divisor d [] ∣ c.weight)
 divides_weights d (c ∷ cs) =
     All-cons (λ (x : Choice). common_divisor d (c ∷ cs) ∣ x.weight) c cs

@@ -1,0 +1,11 @@
+pub mod Texts
+pub mod Plain
+pub mod Order
+pub mod Agreeing
+pub mod Alike
+pub mod Starting
+pub mod Standing
+pub mod Limited
+pub mod Distinct
+pub mod Naming
+pub mod Invariant
