@@ -1,0 +1,16 @@
+use Rattle.std.proofs.Common.{◌≡◌, ◌≤◌, length}
+use Rattle.token_cursor.specs.Ahead.{size}
+use Rattle.token_cursor.specs.Reading.{rest_at}
+use Rattle.ppddl_forms.specs.Variables.{variables}
+use Rattle.ppddl_forms.proofs.Listing.{Rest}
+use Rattle.ppddl_forms.proofs.variables.read_variables.Given as goal
+
+abbrev pub decreases-loop-cursor : goal.decreases-loop-cursor
+decreases-loop-cursor l = size l.cursor
+
+abbrev pub invariant-loop-cursor : goal.invariant-loop-cursor
+invariant-loop-cursor l = record {
+  reads : rest_at (Rest l.names l.seen.keys l.kinds.items) l.cursor ≡ rest_at (variables l.names) l.fn.cursor;
+  within : length l.kinds.items ≤ length l.seen.keys;
+  fewer : size l.cursor ≤ size l.fn.cursor;
+}
