@@ -1,3 +1,4 @@
 pub mod Finding
 pub mod Under
 pub mod Variables
+pub mod Once

@@ -1,3 +1,5 @@
 pub mod Declarations
 pub mod Sight
 pub mod Places
+pub mod Laws
+pub mod Examples

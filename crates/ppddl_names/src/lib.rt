@@ -6,11 +6,16 @@
 #![tactic(auto)]
 
 mod by_name;
+mod laws;
 mod named;
 mod names;
 mod places;
 mod scope;
 mod types;
 
+pub use laws::names_laws;
 pub use names::Names;
 pub use scope::Scope;
+
+#[cfg(test)]
+mod tests;
