@@ -18,9 +18,11 @@ use Rattle.ppddl_model.proofs.States.{same_name-Decides}
 use Rattle.type_table.specs.declared.link.Link.{Link}
 use Rattle.type_table.specs.Numbered.{number_of, name_at}
 use Rattle.type_table.specs.Reading.{items_of, IsLinkOf, type_of}
-use Rattle.type_table.specs.Rows.{row_at, parents_of, EachRow, IsClosed, IsReached, in_row, is_round}
+use Rattle.type_table.specs.Rows.{row_at, parents_of, EachRow, IsClosed, IsReached, Leads, HasRound, in_row, is_round}
 use Rattle.type_table.specs.Types.{type_names, table_world, is_circular, has_cycle, under}
 use Rattle.type_table.specs.Hierarchy.{IsRowOf, IsHierarchy}
+use Rattle.type_table.specs.declared.above.Above.{Above}
+use Rattle.type_table.specs.Above.{rows_of, IsSound}
 use Rattle.type_table.proofs.Lists.{by_test, map_length, placed, position_at, Contains-filter, Contains-filter_cases, any-map}
 use Rattle.type_table.proofs.Numbered.{number_is, same_name_itself}
 use Rattle.type_table.proofs.Once.{each_once_distinct}
@@ -102,7 +104,7 @@ in_numbers o (x ∷ row) passes = by_test (nat_eq x o)
     (λ e. subst (Contains (x ∷ row)) (eqb-true x o e) (Contains-first x row))
     (λ e. Contains-later x row o (in_numbers o row (sym (ap (λ b. b || list_any (λ y. nat_eq y o) row) e) ∙ passes)))
 
-numbers_in : (o : ℕ) (row : List ℕ) → Contains row o → list_any (λ x. nat_eq x o) row ≡ true
+pub numbers_in : (o : ℕ) (row : List ℕ) → Contains row o → list_any (λ x. nat_eq x o) row ≡ true
 numbers_in o [] inside = absurd (Contains-nil o inside)
 numbers_in o (x ∷ row) inside = elim (Contains-cons_cases x row o inside) [
   | inl same ↦ ap (λ b. b || list_any (λ y. nat_eq y o) row) (eq-eqb x o same)
@@ -165,7 +167,7 @@ module _ (types : List TypeDecl) (links : List Link) (parents : List (List ℕ))
       let parent = number_is names declared.0.parent link.0.parent declared.2.parent in
       omega (arith, parent.within, link.3, above.many)
 
-  module _ (k : ℕ) (row : List ℕ) (known : k < length names) (reached : IsReached parents k row) where
+  module _ (k : ℕ) where
     abbrev is_walked : ℕ → Bool
     is_walked a = list_any (same_name (name_at names a)) (upward (length types) types (name_at names k))
 
@@ -182,6 +184,10 @@ module _ (types : List TypeDecl) (links : List Link) (parents : List (List ℕ))
         in_name (name_at names x) (upward (length types) types (name_at names k))
         (subst (λ n. IsAbove types n (name_at names k)) (sym parent.named ∙ ap (name_at names) link.3) on)
 
+    led_is_walked : (o : ℕ) → Leads parents k o → is_walked o ≡ true
+    led_is_walked o leads = leads is_walked walks_are_closed (in_name (name_at names k) (upward (length types) types (name_at names k)) (above_itself types (name_at names k)))
+
+  module _ (k : ℕ) (row : List ℕ) (known : k < length names) (reached : IsReached parents k row) where
     record Found (name : Name) : Type 0 where
       number : ℕ
       bound : number < length names
@@ -202,20 +208,20 @@ module _ (types : List TypeDecl) (links : List Link) (parents : List (List ℕ))
           inside = reached.closed found.number l.parent found.inside (parent_of_link found.number l found.bound link.1 same);
         }
 
-    walked_is_found : (o : ℕ) → o < length names → is_walked o ≡ true → Contains row o
+    walked_is_found : (o : ℕ) → o < length names → is_walked k o ≡ true → Contains row o
     walked_is_found o below walked =
         let begins : Found (name_at names k) = record { number = k; bound = known; names_it = refl; inside = reached.itself } in
         let found = above_within types Found found_is_closed (name_at names k) (name_at names o)
         (name_in (name_at names o) (upward (length types) types (name_at names k)) walked) begins in
         subst (Contains row) (same_number names distinct_names found.number o found.bound below found.names_it) found.inside
 
-    found_is_walked : (o : ℕ) → Contains row o → is_walked o ≡ true
+    found_is_walked : (o : ℕ) → Contains row o → is_walked k o ≡ true
     found_is_walked o inside =
-        reached.least is_walked walks_are_closed (in_name (name_at names k) (upward (length types) types (name_at names k)) (above_itself types (name_at names k))) o inside
+        reached.least (is_walked k) (walks_are_closed k) (in_name (name_at names k) (upward (length types) types (name_at names k)) (above_itself types (name_at names k))) o inside
 
     exact : (o : ℕ) → o < length names → in_row row o ≡ under types k o
     exact o below =
-        let there : list_any (λ x. nat_eq x o) row ≡ is_walked o = same_tests (list_any (λ x. nat_eq x o) row) (is_walked o)
+        let there : list_any (λ x. nat_eq x o) row ≡ is_walked k o = same_tests (list_any (λ x. nat_eq x o) row) (is_walked k o)
         (λ e. found_is_walked o (in_numbers o row e)) (λ e. numbers_in o row (walked_is_found o below e)) in
         λ i. is_object types o below i || there i
 
@@ -225,6 +231,55 @@ module _ (types : List TypeDecl) (links : List Link) (parents : List (List ℕ))
       within = λ x inside. omega (arith, reached.within x inside, above.many);
       exact = exact;
     }
+
+-- ---- a round is a cycle
+
+any_of : {X : Type 0} (p : X → Bool) (xs : List X) (x : X) → Contains xs x → p x ≡ true → list_any p xs ≡ true
+any_of p [] x inside passes = absurd (Contains-nil x inside)
+any_of p (y ∷ xs) x inside passes = elim (Contains-cons_cases y xs x inside) [
+  | inl here ↦ ap (λ b. b || list_any p xs) (ap p here ∙ passes)
+  | inr later ↦ ap (λ b. p y || b) (any_of p xs x later passes) ∙ or_true (p y)
+]
+  where
+    or_true : (b : Bool) → (b || true) ≡ true
+    or_true true = refl
+    or_true false = refl
+
+module _ (types : List TypeDecl) (given : List Name) (links : List Link) (parents : List (List ℕ))
+    (named : given ≡ type_names types) (linked : AllZip (IsLinkOf given) links types)
+    (above : EachRow (length given) (λ k row. row ≡ parents_of links k) parents) where
+  abbrev linked_types : AllZip (IsLinkOf (type_names types)) links types
+  linked_types = subst (λ ns. AllZip (IsLinkOf ns) links types) named linked
+
+  abbrev above_types : EachRow (length (type_names types)) (λ k row. row ≡ parents_of links k) parents
+  above_types = subst (λ ns. EachRow (length ns) (λ k row. row ≡ parents_of links k) parents) named above
+
+  pub cycle_of_round : HasRound parents → has_cycle types ≡ true
+  cycle_of_round round =
+      let found = link_of_parent types links parents linked_types above_types round.child round.parent round.declared in
+      let l = found.0 in
+      let within = links_within (type_names types) links types linked_types l found.1 in
+      let object : (o : ℕ) → o < length (type_names types) → same_name (name_at (type_names types) o) (codes "object") ≡ (o == 0) = λ o bound. sym (is_object types o bound) in
+      let apart : ((l.child == 0) && (l.parent == 0)) ≡ false = by_test (l.child == 0)
+      (λ e. by_test (l.parent == 0)
+      (λ f. absurd (round.real (sym found.2 ∙ eqb-true l.child 0 e) (sym found.3 ∙ eqb-true l.parent 0 f)))
+      (λ f. (λ i. e i && f i)))
+      (λ e. ap (λ b. b && (l.parent == 0)) e) in
+      let up : under types l.parent l.child ≡ true = elim round.back [
+        | inl top ↦ ap (λ b. b || is_walked types links parents linked_types above_types l.parent l.child) (object l.child within.0 ∙ eq-eqb l.child 0 (found.2 ∙ top))
+        | inr leads ↦ ap (λ b. same_name (name_at (type_names types) l.child) (codes "object") || b)
+            (led_is_walked types links parents linked_types above_types l.parent l.child
+            (λ inside closed begins. ap inside found.2 ∙ leads inside closed (ap inside (sym found.3) ∙ begins)))
+            ∙ or_true_last (same_name (name_at (type_names types) l.child) (codes "object"))
+      ] in
+      let circular : is_circular types (type_of (type_names types) l) ≡ true =
+      (λ i. not (object l.child within.0 i && object l.parent within.1 i) && up i) ∙ ap (λ b. not b && true) apart in
+      sym (ap (list_any (is_circular types)) (links_are (type_names types) links types linked_types))
+      ∙ any_of (is_circular types) (map (type_of (type_names types)) links) (type_of (type_names types) l) (Contains-map (type_of (type_names types)) links l found.1) circular
+    where
+      or_true_last : (b : Bool) → (b || true) ≡ true
+      or_true_last true = refl
+      or_true_last false = refl
 
 -- ---- the whole hierarchy
 
@@ -246,11 +301,12 @@ module _ (types : List TypeDecl) (names : List Name) (links : List Link) (parent
       reached_is_row types links parents linked_names above_names k (row_at rows k) (omega (arith, below, ap length named))
       (reached.each k (omega (arith, below, above.many)))
 
-  pub is_hierarchy : IsHierarchy names links rows
-  is_hierarchy = record {
+  pub is_hierarchy : (what : Above) → rows_of what ≡ rows → IsSound what → IsHierarchy names links what
+  is_hierarchy what is sound = record {
     named = named ∙ ap type_names (sym types_are);
-    many = omega (arith, reached.many, above.many);
-    each = λ k below. subst (λ ts. IsRowOf ts k (row_at rows k)) (sym types_are) (each_row k below);
+    many = ap length is ∙ omega (arith, reached.many, above.many);
+    each = λ k below. subst (λ rs. IsRowOf (map (type_of names) links) k (row_at rs k)) (sym is) (subst (λ ts. IsRowOf ts k (row_at rows k)) (sym types_are) (each_row k below));
+    sound = sound;
   }
 
   round_is_circular : (l : Link) → Contains links l → is_round rows l ≡ is_circular types (type_of names l)

@@ -6,5 +6,9 @@ pub mod Ancestors
 pub mod RowSteps
 pub mod Bridge
 pub mod MemberSteps
+pub mod Climbing
+pub mod Placing
+pub mod AddingUp
+pub mod Rounds
 pub mod Worlds
 pub mod Fitting

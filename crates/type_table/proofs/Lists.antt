@@ -1,6 +1,6 @@
 -- Places and members in lists.
 use Rattle.std.proofs.Common.{◌≡◌, ℕ, zero, suc, ◌+◌, ◌<◌, ◌≤◌, inl, inr, Bool, true, false, not, ◌||◌, List, [], ◌∷◌, ◌++◌, length, map, filter, Some, None, refl, sym, ap, subst, ◌∙◌, arith, nat_lt, true≢false, lt-ltb, get_or}
-use Rattle.std.specs.Prelude.{Contains, cond, position}
+use Rattle.std.specs.Prelude.{Contains, cond, position, Result, Ok, Err, IsErrOf}
 use Rattle.std.specs.List.{list_any, position_or_len, AllZip}
 use Rattle.plain_list.proofs.Members.{Contains-first, Contains-later, Contains-cons_cases, Contains-nil}
 
@@ -102,3 +102,14 @@ pub get-map : {X Y : Type 0} (f : X → Y) (xs : List X) (i : ℕ) (d : Y) (e : 
 get-map f [] i d e within = absurd (omega arith)
 get-map f (x ∷ xs) zero d e within = refl
 get-map f (x ∷ xs) (suc i) d e within = get-map f xs i d e (omega arith)
+
+-- ---- errors
+
+error_or : {T E : Type 0} → E → Result T E → E
+error_or d (Ok x) = d
+error_or d (Err e) = e
+
+-- an error is the same whatever would have been the answer
+pub handed_on : {T U E : Type 0} (r : Result T E) (e d : E) → r ≡ Err e → r ≡ Err d → IsErrOf {T = U} (Err e) d
+unfolding error_or
+handed_on r e d was is = ap Err (ap (error_or d) (sym was ∙ is))

@@ -15,12 +15,12 @@ use Rattle.type_table.proofs.Lists.{by_test}
 
 -- ---- rows
 
-get_before : {X : Type 0} (xs : List X) (y d : X) (k : ℕ) → k < length xs → get_or (xs ++ y ∷ []) k d ≡ get_or xs k d
+pub get_before : {X : Type 0} (xs : List X) (y d : X) (k : ℕ) → k < length xs → get_or (xs ++ y ∷ []) k d ≡ get_or xs k d
 get_before [] y d k within = absurd (omega arith)
 get_before (x ∷ xs) y d zero within = refl
 get_before (x ∷ xs) y d (suc k) within = get_before xs y d k (omega arith)
 
-get_last : {X : Type 0} (xs : List X) (y d : X) → get_or (xs ++ y ∷ []) (length xs) d ≡ y
+pub get_last : {X : Type 0} (xs : List X) (y d : X) → get_or (xs ++ y ∷ []) (length xs) d ≡ y
 get_last [] y d = refl
 get_last (x ∷ xs) y d = get_last xs y d
 

@@ -4,5 +4,7 @@ pub mod Examples
 pub mod Laws
 pub mod Reading
 pub mod Rows
+pub mod Forest
+pub mod Above
 pub mod Hierarchy
 pub mod Table

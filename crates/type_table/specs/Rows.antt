@@ -13,8 +13,11 @@
 --     IsGrown rows kinds x k row  the row of k with x behind it where k is one of the kinds
 --     IsMember rows kinds x k row the same also where k is `object`
 --     AddsToRow, AddsObject       each row has become so
+--     Leads rows a b              b is reached from a
+--     HasRound rows               a type that is reached from its own parent, or `object` where it has one
+--     AreEnds count l             both numbers of a declaration are below the count
 --     is_round rows l             a declaration that leads back to its own type; `object - object` says nothing
-use Rattle.std.specs.Prelude.{◌≡◌, ◌<◌, ◌==◌, ℕ, Bool, true, not, ◌&&◌, ◌||◌, nat_eq, cond, List, [], ◌∷◌, ◌++◌, map, filter, length, slice_index_or, slice_set, Contains, Vec}
+use Rattle.std.specs.Prelude.{◌≡◌, ◌<◌, ◌==◌, ◌⊎◌, ℕ, Bool, true, not, ◌&&◌, ◌||◌, nat_eq, cond, List, [], ◌∷◌, ◌++◌, map, filter, length, slice_index_or, slice_set, Contains, Vec}
 use Rattle.std.specs.List.{list_any, IsDistinct}
 use Rattle.type_table.specs.declared.link.Link.{Link}
 use Rattle.type_table.specs.Reading.{items_of}
@@ -69,6 +72,21 @@ in_row row o = (o == 0) || list_any (λ x. nat_eq x o) row
 
 abbrev pub is_round : List (List ℕ) → Link → Bool
 is_round rows l = not ((l.child == 0) && (l.parent == 0)) && in_row (row_at rows l.parent) l.child
+
+-- a set of numbers that has a and the row of each of its numbers has b
+abbrev pub Leads : List (List ℕ) → ℕ → ℕ → Type 0
+Leads rows a b = (inside : ℕ → Bool) → IsClosed rows inside → inside a ≡ true → inside b ≡ true
+
+pub record HasRound (rows : List (List ℕ)) : Type 0 where
+  pub child : ℕ
+  pub parent : ℕ
+  pub declared : Contains (row_at rows child) parent
+  pub real : child ≡ 0 → parent ≡ 0 → ⊥
+  pub back : (child ≡ 0) ⊎ Leads rows parent child
+
+pub record AreEnds (count : ℕ) (l : Link) : Type 0 where
+  pub child : l.child < count
+  pub parent : l.parent < count
 
 abbrev pub IsGrown : List (List ℕ) → List ℕ → ℕ → ℕ → List ℕ → Type 0
 IsGrown rows kinds x k row = row ≡ row_at rows k ++ cond (list_any (λ y. nat_eq y k) kinds) (x ∷ []) []

@@ -5,25 +5,24 @@ ghost use Rattle.ppddl_model.specs.Objects.{is_under};
 ghost use Rattle.type_table.specs.declared.refusal.TypeRefusal.TheVariants.{Cycle};
 ghost use Rattle.type_table.specs.Numbered.{number_of, name_at};
 ghost use Rattle.type_table.specs.Types.{type_names, has_cycle, under};
-ghost use Rattle.type_table.specs.Hierarchy.{IsRowOf};
+ghost use Rattle.type_table.specs.Hierarchy.{IsAdded};
 
-use crate::closure::{closure, has_round, in_row};
+use crate::above::Above;
 use crate::link::{Link, links};
 use crate::names::Names;
 use crate::refusal::TypeRefusal;
 use crate::rows::parent_rows;
 use plain_list::List;
 use ppddl_model::TypeDecl;
-use std::alloc::Global;
+use std::alloc::{AllocError, Global};
 use std::marker::Model;
 
-/// The types by number, and for each those that are reached from it. Contracts see the
-/// declarations.
+/// The types by number, with what stands above each. Contracts see the declarations.
 #[derive(Drop)]
 pub(crate) struct Hierarchy {
     names: Names,
     links: List<Link>,
-    rows: List<List<u32>>,
+    above: Above,
 }
 
 impl Model for Hierarchy {
@@ -36,7 +35,7 @@ impl Model for Hierarchy {
 
     ghost view = { λ h. map (type_of h.names) h.links };
 
-    ghost invariant = { λ h. IsHierarchy h.names h.links h.rows };
+    ghost invariant = { λ h. IsHierarchy h.names h.links h.above };
 }
 
 impl Hierarchy {
@@ -50,11 +49,12 @@ impl Hierarchy {
         names.add(b"object")?;
         let links = links(alloc, &mut names, types)?;
         let parents = parent_rows(alloc, names.len(), links.as_slice())?;
-        let rows = closure(alloc, parents.as_slice())?;
-        if has_round(rows.as_slice(), links.as_slice()) {
-            return Err(TypeRefusal::Cycle);
-        }
-        Ok(Hierarchy { names, links, rows })
+        let above = Above::make(alloc, parents.as_slice(), links.as_slice())?;
+        Ok(Hierarchy {
+            names,
+            links,
+            above,
+        })
     }
 
     /// How many types there are.
@@ -78,20 +78,26 @@ impl Hierarchy {
         &self.names
     }
 
-    /// The types that are reached from a type.
-    pub(crate) fn row(&self, kind: u32) -> &[u32]
-        requires { kind < length (type_names self.now) }
-        ensures { IsRowOf self.now kind result.now }
-    {
-        self.rows.as_slice()[kind as usize].as_slice()
-    }
-
     /// Whether a type is another or is under it.
     pub(crate) fn is_under(&self, kind: u32, other: u32) -> bool
         requires kind { kind < length (type_names self.now) }
         requires other { other < length (type_names self.now) }
         ensures { result ≡ under self.now kind other }
     {
-        in_row(self.row(kind), other)
+        self.above.is_under(kind, other)
+    }
+
+    /// Puts an object behind those of each type of which it is.
+    pub(crate) fn add_member(
+        &self,
+        members: &mut Vec<Vec<u32>>,
+        kind: u32,
+        object: u32,
+    ) -> Result<(), AllocError>
+        requires kind { kind < length (type_names self.now) }
+        requires many { length members.old.items ≡ length (type_names self.now) }
+        ensures { OnOk result (IsAdded self.now kind members.old.items object members.new.items) }
+    {
+        self.above.add_member(members, kind, object)
     }
 }

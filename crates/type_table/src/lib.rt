@@ -5,13 +5,16 @@
 //! 1998).
 #![tactic(auto)]
 
+mod above;
 mod closure;
+mod forest;
 mod hierarchy;
 mod laws;
 mod link;
 mod members;
 mod names;
 mod objects;
+mod parents;
 mod refusal;
 mod rows;
 mod table;

@@ -1,9 +1,9 @@
 //! Rows of numbers, one for each type.
 
-ghost use Rattle.std.specs.Prelude.{◌<◌, length, IfOk, OnOk};
-ghost use Rattle.std.specs.List.{All};
+ghost use Rattle.std.specs.Prelude.{◌<◌, length, nat_eq, IfOk, OnOk};
+ghost use Rattle.std.specs.List.{All, IsDistinct};
 ghost use Rattle.type_table.specs.declared.link.Link.{Link};
-ghost use Rattle.type_table.specs.Rows.{AreEmpty, AreParents, IsPushed};
+ghost use Rattle.type_table.specs.Rows.{AreEmpty, AreParents, IsPushed, AddsToRow, AddsObject};
 
 use crate::link::Link;
 use std::alloc::{AllocError, Global};
@@ -42,4 +42,34 @@ pub(crate) fn parent_rows(
         push_to(&mut rows, link.child, link.parent)?;
     }
     Ok(rows)
+}
+
+/// Puts an object behind those of each type of a row.
+fn add_to_row(members: &mut Vec<Vec<u32>>, row: &[u32], object: u32) -> Result<(), AllocError>
+    requires distinct { IsDistinct nat_eq row.now }
+    requires within { All (λ k. k < length members.old.items) row.now }
+    ensures { OnOk result (AddsToRow members.old.items row.now object members.new.items) }
+{
+    for kind in row {
+        push_to(members, *kind, object)?;
+    }
+    Ok(())
+}
+
+/// Puts an object behind those of `object` and of each type of a row.
+pub(crate) fn add_object(
+    members: &mut Vec<Vec<u32>>,
+    row: &[u32],
+    object: u32,
+) -> Result<(), AllocError>
+    requires distinct { IsDistinct nat_eq row.now }
+    requires within { All (λ k. k < length members.old.items) row.now }
+    requires some { 0 < length members.old.items }
+    ensures { OnOk result (AddsObject members.old.items row.now object members.new.items) }
+{
+    add_to_row(members, row, object)?;
+    if !row.contains(&0) {
+        push_to(members, 0, object)?;
+    }
+    Ok(())
 }

@@ -4,7 +4,7 @@ use Rattle.type_table.specs.Reading.{items_of}
 use Rattle.type_table.specs.Rows.{EachRow, IsGrown}
 use Rattle.type_table.proofs.Lists.{map_length}
 use Rattle.type_table.proofs.MemberSteps.{grown_none, grown_more}
-use Rattle.type_table.proofs.members.add_to_row.Goals as goal
+use Rattle.type_table.proofs.rows.add_to_row.Goals as goal
 
 pub loop-kind-init : goal.loop-kind-init
 loop-kind-init c =

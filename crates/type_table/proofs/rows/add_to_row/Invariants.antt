@@ -1,7 +1,7 @@
 use Rattle.std.proofs.Common.{length, map, take}
 use Rattle.type_table.specs.Reading.{items_of}
 use Rattle.type_table.specs.Rows.{EachRow, IsGrown}
-use Rattle.type_table.proofs.members.add_to_row.Given as goal
+use Rattle.type_table.proofs.rows.add_to_row.Given as goal
 
 abbrev pub invariant-loop-kind : goal.invariant-loop-kind
 invariant-loop-kind l =

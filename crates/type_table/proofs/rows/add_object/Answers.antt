@@ -2,7 +2,7 @@ use Rattle.std.proofs.Common.{◌≡◌, length, map, sym, subst, true, false, r
 use Rattle.type_table.specs.Reading.{items_of}
 use Rattle.type_table.specs.Rows.{EachRow, IsMember}
 use Rattle.type_table.proofs.MemberSteps.{is_in, member_there, member_pushed}
-use Rattle.type_table.proofs.members.add_object.Goals as goal
+use Rattle.type_table.proofs.rows.add_object.Goals as goal
 
 pub returns-in_ok-push_to : goal.returns-in_ok-push_to
 returns-in_ok-push_to c =
