@@ -1,6 +1,7 @@
 //! Hierarchies in which each type has one parent at most.
 
-ghost use Rattle.std.specs.Prelude.{◌≡◌, ◌<◌, ◌^◌, [], length, map, nat_eq, not, IfOk, OnOk, IsErrOf};
+ghost use Rattle.std.specs.Prelude.{◌≡◌, ◌<◌, ◌^◌, [], length, nat_eq, not};
+ghost use Rattle.std.specs.Prelude.{IfOk, OnOk, IsErrOf};
 ghost use Rattle.std.specs.List.{list_any, IsDistinct};
 ghost use Rattle.indexmap.specs.IndexSet.{insert_key};
 ghost use Rattle.type_table.specs.declared.refusal.TypeRefusal.TheVariants.{Cycle};

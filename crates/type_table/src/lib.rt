@@ -1,8 +1,8 @@
 //! The types and the objects of a task by number.
 //!
-//! A table is made once of the declarations of types and objects, and answers by hash and by rows
-//! that are closed then. Types stand under `object` in a hierarchy, as in PDDL 1.2 (McDermott et al.
-//! 1998).
+//! A table is made once of the declarations of types and objects, and answers by hash, by walks up
+//! the hierarchy and by lists of objects. Types stand under `object` in a hierarchy, as in PDDL 1.2
+//! (McDermott et al. 1998).
 #![tactic(auto)]
 
 mod above;

@@ -1,6 +1,7 @@
 //! The one parent of each type.
 
-ghost use Rattle.std.specs.Prelude.{◌≡◌, ◌<◌, ◌^◌, [], ◌∷◌, ◌++◌, length, map, IfOk, OnOk, IfSome, IsErrOf};
+ghost use Rattle.std.specs.Prelude.{◌≡◌, ◌<◌, ◌^◌, [], ◌∷◌, ◌++◌, length, map};
+ghost use Rattle.std.specs.Prelude.{IfOk, OnOk, IfSome, IsErrOf};
 ghost use Rattle.type_table.specs.declared.refusal.TypeRefusal.TheVariants.{Cycle};
 ghost use Rattle.type_table.specs.Forest.{IsOnly, IsOwnParent, IsSingle};
 ghost use Rattle.type_table.specs.Reading.{items_of};
@@ -10,8 +11,8 @@ use crate::refusal::TypeRefusal;
 use plain_list::List;
 use std::alloc::{AllocError, Global};
 
-/// The parent of a type, itself where it has none; None where there are several. It is refused where
-/// a type is its own parent, and where `object` has another one.
+/// The parent of a type, itself where it has none; None where there are several. It is refused
+/// where a type is its own parent, and where `object` has another one.
 fn only_parent(row: &[u32], kind: u32) -> Result<Option<u32>, TypeRefusal>
     ensures only { IfOk result (λ found. IfSome found (IsOnly row.now kind)) }
     ensures cycle { IsErrOf result Cycle → IsOwnParent row.now kind }

@@ -21,8 +21,8 @@ use ppddl_model::{ObjectDecl, TypeDecl};
 use std::alloc::Global;
 use std::marker::Model;
 
-/// The types and the objects of declarations by number, closed once. Contracts see the declarations,
-/// with each object once.
+/// The types and the objects of declarations by number. Contracts see the declarations, with each
+/// object once.
 #[derive(Drop)]
 pub struct TypeTable {
     types: Hierarchy,
