@@ -1,40 +1,20 @@
 -- Choices and entries whose keys are joined alike stay alike in products, with the rest, and when they are merged.
-use Rattle.std.proofs.Common.{◌≡◌, ℕ, ◌+◌, ◌-◌, ◌*◌, ◌/◌, List, [], ◌∷◌, map, sym, ap, ◌∙◌, arith}
+use Rattle.std.proofs.Common.{◌≡◌, ℕ, ◌+◌, ◌-◌, ◌*◌, List, [], ◌∷◌, map, sym, ap, ◌∙◌, arith}
 use Rattle.std.specs.Prelude.{All}
-use Rattle.std.specs.Int.{◌∣◌}
-use Rattle.std.proofs.Math.Nat.{mul_comm, mul_assoc, mul-sub, div-mul_cancel}
+use Rattle.std.proofs.Math.Nat.{mul_assoc}
 use Rattle.std.proofs.lemmas.List.Elements.{All-head, All-tail}
-use Rattle.exact_fraction.specs.declared.fraction.Fraction.{Fraction}
 use Rattle.weighted.specs.Mean.{total, mean, IsAlike, products, positive}
 use Rattle.weighted.specs.Operations.{IsProduct, IsMerge}
 use Rattle.weighted.proofs.Totals.{total-append}
 use Rattle.weighted.proofs.Means.{mean-constant, mean-positive}
 use Rattle.weighted.proofs.Merging.{mean-merged}
 use Rattle.weighted.proofs.Alike.{alike_products}
-use Rattle.ppddl_model.specs.Denominator.{share}
 use Rattle.ppddl_model.specs.Outcomes as task
 use Rattle.ppddl_model.specs.Outcomes.{Entry, nothing, products_with}
 use Rattle.ground_model.specs.declared.action.Choice.{Choice}
+use Rattle.joint_choices.proofs.Law.{entry_weight, ones, rest_law, rest_sum}
 use Rattle.joint_choices.specs.Same.{same_choice}
 use Rattle.joint_choices.specs.Joint.{weight_of, idle, joined, added, merged, with_factor, product_with, with_rest}
-
-ones : (a b : ℕ) → a * 1 * b ≡ a * b
-ones a b = grind arith
-
-sub_times : (a b c : ℕ) → (a - b) * c ≡ a * c - b * c
-sub_times a b c = mul_comm (a - b) c ∙ mul-sub c a b ∙ ap (λ t. t - c * b) (mul_comm c a) ∙ ap (λ t. a * c - t) (mul_comm c b)
-
--- what is left over has the same chance too
-rest_law : (den whole t t' : ℕ) → t * whole ≡ t' * den → (den - t) * whole ≡ (whole - t') * den
-rest_law den whole t t' h =
-    sub_times den t whole ∙ ap (λ x. den * whole - x) h ∙ ap (λ x. x - t' * den) (mul_comm den whole) ∙ sym (sub_times whole t' den)
-
-rest_sum : (a b r r' x den whole : ℕ) → a * whole ≡ b * den → r * whole ≡ r' * den
-    → (a + (r * x + 0)) * whole ≡ (b + (r' * x + 0)) * den
-rest_sum a b r r' x den whole h g =
-    let p : (a + (r * x + 0)) * whole ≡ a * whole + r * whole * x = grind arith in
-    let q : (b + (r' * x + 0)) * den ≡ b * den + r' * den * x = grind arith in
-    p ∙ ap (λ t. t + r * whole * x) h ∙ ap (λ t. b * den + t * x) g ∙ sym q
 
 one_more : (a b x m n den whole : ℕ) → a * whole ≡ b * den → m * whole ≡ n * den → (a * x + m) * whole ≡ (b * x + n) * den
 one_more a b x m n den whole h g =
@@ -44,19 +24,6 @@ one_more a b x m n den whole h g =
 
 times_one : (k : ℕ) → k * 1 ≡ k
 times_one k = omega arith
-
--- shares of one whole, in those of another
-pub share-times : (whole other : ℕ) (chance : Fraction) → chance.den ∣ whole → chance.den ∣ other
-    → share whole chance * other ≡ share other chance * whole
-share-times whole other chance divides divides_other =
-    let q : ℕ = whole / chance.den in
-    let r : ℕ = other / chance.den in
-    let swapped : chance.num * q * (r * chance.den) ≡ chance.num * r * (q * chance.den) = grind arith in
-    ap (λ t. chance.num * q * t) (sym (div-mul_cancel chance.den divides_other)) ∙ swapped
-    ∙ ap (λ t. chance.num * r * t) (div-mul_cancel chance.den divides)
-
-abbrev pub entry_weight : Entry → ℕ
-entry_weight x = x.weight
 
 module _ {K : Type 0} (view : Choice → K) (seen : Entry → K) (combine : K → K → K)
     (choices_join : IsProduct weight_of view joined combine) (entries_join : IsProduct entry_weight seen task.joined combine)

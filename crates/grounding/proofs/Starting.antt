@@ -54,13 +54,14 @@ use Rattle.joint_choices.specs.Same.{same_choice}
 use Rattle.joint_choices.specs.Joint.{weight_of, idle, joined, added, numbers, with_factor, product_with}
 use Rattle.joint_choices.proofs.Members.{any-append, any-rising}
 use Rattle.joint_choices.proofs.Reduced.{divides_start, divides_weights}
-use Rattle.joint_choices.proofs.Shares.{shares_of_own}
+use Rattle.joint_choices.proofs.Shares.{share-times, shares_of_own}
 use Rattle.joint_choices.proofs.Weights.{total-with_factor, total-with_rest}
 use Rattle.joint_choices.proofs.Same.{same_choice-is}
 use Rattle.grounding.specs.Atoms.{numbering_of}
 use Rattle.grounding.specs.Starts.{item_den, true_choice, item_choices, start_choices, starts_den, packed_start, start_divisor}
 use Rattle.grounding.specs.Problem.{ground_problem}
-use Rattle.grounding.proofs.Alike.{entry_weight, share-times, Alike, alike_rest, alike_shares, alike_over}
+use Rattle.joint_choices.proofs.Law.{entry_weight}
+use Rattle.grounding.proofs.Alike.{Alike, alike_rest, alike_shares, alike_over}
 use Rattle.grounding.proofs.Plain.{all_at, IsPlain}
 use Rattle.grounding.proofs.Agreeing.{all_from, member_of, place_of, same_bit, told_by_text, has_number, other_has_none, changing_plain, init_atom_plain, is_changing_member}
 

@@ -69,11 +69,11 @@ sub_times : (a b c : ℕ) → (a - b) * c ≡ a * c - b * c
 sub_times a b c = mul_comm (a - b) c ∙ mul-sub c a b ∙ ap (λ t. t - c * b) (mul_comm c a) ∙ ap (λ t. a * c - t) (mul_comm c b)
 
 -- what is left over has the same chance too
-rest_law : (den whole t t' : ℕ) → t * whole ≡ t' * den → (den - t) * whole ≡ (whole - t') * den
+pub rest_law : (den whole t t' : ℕ) → t * whole ≡ t' * den → (den - t) * whole ≡ (whole - t') * den
 rest_law den whole t t' h =
     sub_times den t whole ∙ ap (λ x. den * whole - x) h ∙ ap (λ x. x - t' * den) (mul_comm den whole) ∙ sym (sub_times whole t' den)
 
-rest_sum : (a b r r' x den whole : ℕ) → a * whole ≡ b * den → r * whole ≡ r' * den
+pub rest_sum : (a b r r' x den whole : ℕ) → a * whole ≡ b * den → r * whole ≡ r' * den
     → (a + (r * x + 0)) * whole ≡ (b + (r' * x + 0)) * den
 rest_sum a b r r' x den whole h g =
     let p : (a + (r * x + 0)) * whole ≡ a * whole + r * whole * x = grind arith in
@@ -92,7 +92,7 @@ power_split den most m within =
 single : (a b den : ℕ) → a ≡ b → (1 * a + 0) * den ^ 0 ≡ (1 * b + 0) * 1
 single a b den e = ap (λ t. (1 * a + 0) * t) (pow-zero den) ∙ ap (λ x. (1 * x + 0) * 1) e
 
-ones : (a b : ℕ) → a * 1 * b ≡ a * b
+pub ones : (a b : ℕ) → a * 1 * b ≡ a * b
 ones a b = grind arith
 
 -- what the chances of an effect are over den

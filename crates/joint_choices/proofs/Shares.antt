@@ -15,7 +15,7 @@ use Rattle.ppddl_model.specs.Chances.{SumWithinOne}
 use Rattle.joint_choices.proofs.Lists.{All-from_map}
 
 -- shares of one whole, in those of another
-share-times : (whole other : ℕ) (chance : Fraction) → chance.den ∣ whole → chance.den ∣ other
+pub share-times : (whole other : ℕ) (chance : Fraction) → chance.den ∣ whole → chance.den ∣ other
     → share whole chance * other ≡ share other chance * whole
 share-times whole other chance divides divides_other =
     let q : ℕ = whole / chance.den in
