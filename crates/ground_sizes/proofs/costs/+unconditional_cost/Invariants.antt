@@ -1,0 +1,14 @@
+use Rattle.std.proofs.Common.{◌≡◌, ◌+◌, drop}
+use Rattle.weighted.specs.Mean.{total}
+use Rattle.ppddl_model.specs.Costs.{unconditional_cost}
+use Rattle.ground_sizes.specs.Counted.{counted}
+use Rattle.ground_sizes.specs.Valued.{with_values}
+use Rattle.ground_sizes.proofs.costs.+unconditional_cost.Given as goal
+
+abbrev pub invariant-loop-part : goal.invariant-loop-part
+invariant-loop-part l = record {
+  small : counted l.cost ≡ l.cost;
+  rest :
+      counted (l.cost + total (unconditional_cost (with_values l.table l.values)) (drop l.part-index l.part-items))
+      ≡ counted (unconditional_cost (with_values l.table l.values) l.effect);
+}

@@ -1,0 +1,4 @@
+pub mod Counted
+pub mod Typed
+pub mod Valued
+pub mod Laws
