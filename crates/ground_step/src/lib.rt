@@ -22,3 +22,6 @@ pub use hashing::hash;
 pub use laws::step_laws;
 pub use steps::{applicable, apply, is_goal, successor};
 pub use true_bits::{TrueAtoms, true_atoms};
+
+#[cfg(test)]
+mod tests;

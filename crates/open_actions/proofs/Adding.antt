@@ -8,7 +8,7 @@ use Rattle.ground_model.specs.Truth.{truth}
 use Rattle.ground_step.proofs.Truth.{truth-Not}
 use Rattle.open_actions.specs.Masks.{pass_all, are_true, AddsLiteral, Literals, Adds, AddsCondition}
 use Rattle.open_actions.specs.declared.word_test.WordTest.{WordTest}
-use Rattle.open_actions.proofs.Tests.{all-push}
+use Rattle.open_actions.proofs.WordTests.{all-push}
 
 both : (a b : Bool) → a ≡ true → b ≡ true → (a && b) ≡ true
 both a b first second = ap (λ c. c && b) first ∙ second

@@ -1,5 +1,5 @@
 pub mod Bits
-pub mod Tests
+pub mod WordTests
 pub mod Adding
 pub mod RunSteps
 pub mod Codes

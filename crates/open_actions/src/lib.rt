@@ -16,3 +16,6 @@ mod word_test;
 pub use masked::Masked;
 pub use open_actions::OpenActions;
 pub use open_codes::OpenCodes;
+
+#[cfg(test)]
+mod tests;

@@ -49,8 +49,16 @@ fn pass_all(tests: &[WordTest], state: &State) -> bool
 }
 
 impl<'p> Masked<'p> {
-    /// The masks of a condition, and the atoms that it requires. It is refused for want of memory alone.
-    pub(crate) fn new(
+    /// The condition with its masks. It is refused for want of memory alone.
+    pub fn new(alloc: Global, condition: &'p GroundCondition) -> Result<Self, AllocError>
+        ensures { IfOk result (λ masked. masked ≡ condition.now) }
+    {
+        let (masked, _atoms) = Masked::with_required(alloc, condition)?;
+        Ok(masked)
+    }
+
+    /// The condition with its masks, and the atoms that it requires to be true.
+    pub(crate) fn with_required(
         alloc: Global,
         condition: &'p GroundCondition,
     ) -> Result<(Self, List<u32>), AllocError>

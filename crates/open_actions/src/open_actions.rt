@@ -62,7 +62,7 @@ fn masked_preconditions<'p>(
     let mut conditions = Vec::new(alloc);
     let mut required = Vec::new(alloc);
     for action in problem.actions() {
-        let (masked, atoms) = Masked::new(alloc, &action.condition)?;
+        let (masked, atoms) = Masked::with_required(alloc, &action.condition)?;
         conditions.push(masked)?;
         required.push(atoms)?;
     }

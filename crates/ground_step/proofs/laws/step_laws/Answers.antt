@@ -1,5 +1,6 @@
 -- The laws of steps, by their lemmas.
 use Rattle.ground_step.proofs.Outcomes.{cost_within, choice_is, next_at-choice, cost_at-choice}
+use Rattle.ground_model.proofs.Packed.{length-packed}
 use Rattle.ground_step.proofs.laws.step_laws.Goals as goal
 
 pub returns-clause-costs : goal.returns-clause-costs
@@ -11,3 +12,6 @@ returns-clause-choices c = choice_is
 pub returns-clause-outcomes : goal.returns-clause-outcomes
 returns-clause-outcomes c = λ g k i choice s place.
     (next_at-choice g k i choice s place, cost_at-choice g k i choice s place)
+
+pub returns-clause-length : goal.returns-clause-length
+returns-clause-length c = length-packed

@@ -4,7 +4,7 @@ use Rattle.std.proofs.lemmas.List.{get_or_default}
 use Rattle.open_actions.specs.Masks.{AddsLiteral, passes, with_literal}
 use Rattle.std.specs.List.{list_all}
 use Rattle.open_actions.specs.declared.word_test.WordTest.{WordTest}
-use Rattle.open_actions.proofs.Tests.{set_adds, push_adds}
+use Rattle.open_actions.proofs.WordTests.{set_adds, push_adds}
 use Rattle.open_actions.proofs.requirements.add_literal.Goals as goal
 
 set_in : (tests initial : List WordTest) (k a : ℕ) (is_true : _) (seen read new : WordTest) → tests ≡ initial → k < length tests
