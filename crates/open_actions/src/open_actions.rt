@@ -95,6 +95,13 @@ impl<'p> OpenActions<'p> {
         })
     }
 
+    /// The problem.
+    pub fn problem(&self) -> &'p GroundProblem
+        ensures { result.now ≡ self.now }
+    {
+        self.problem
+    }
+
     /// Whether the action of an entry is open.
     fn opens(&self, entry: &Entry, state: &State) -> bool
         requires { IsEntry self.now entry.now }
