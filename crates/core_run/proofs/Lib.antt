@@ -1,0 +1,15 @@
+pub mod Entries
+pub mod ActionValues
+pub mod Rests
+pub mod Insides
+pub mod Firsts
+pub mod Shown
+pub mod Rows
+pub mod Hearing
+pub mod Simulation
+pub mod Drafts
+pub mod Steps
+pub mod Choosing
+pub mod Allowance
+pub mod Starts
+pub mod Prefixes
