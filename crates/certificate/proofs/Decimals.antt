@@ -95,7 +95,10 @@ number_again n below =
     let value : number_after 0 (decimal n) ≡ n = digits_value-decimal own n (omega arith) in
     is_number (decimal n) (decimal_is_plain n below) (digits_decimal own n (omega arith)) (omega (arith, value)) ∙ ap (λ (v : ℕ). Some v) value
 
-digits_lack : (c : ℕ) (text : List ℕ) → c < 48 → all_ascii_digits text ≡ true → list_any (λ b. eqb b c) text ≡ false
+pub digits_decimal_of : (n : ℕ) → n ≤ MOST_UNITS → all_ascii_digits (decimal n) ≡ true
+digits_decimal_of n below = digits_decimal own n (omega arith)
+
+pub digits_lack : (c : ℕ) (text : List ℕ) → c < 48 → all_ascii_digits text ≡ true → list_any (λ b. eqb b c) text ≡ false
 digits_lack c [] low digits = refl
 digits_lack c (d ∷ ds) low digits =
     let both = and_parts (is_ascii_digit d) (all_ascii_digits ds) digits in
@@ -105,4 +108,4 @@ digits_lack c (d ∷ ds) low digits =
 
 -- no blank and no line feed stands in a number
 pub decimal_lacks : (c n : ℕ) → c < 48 → n ≤ MOST_UNITS → list_any (λ b. eqb b c) (decimal n) ≡ false
-decimal_lacks c n low below = digits_lack c (decimal n) low (digits_decimal own n (omega arith))
+decimal_lacks c n low below = digits_lack c (decimal n) low (digits_decimal_of n below)

@@ -4,7 +4,7 @@ use Rattle.std.specs.List.{onto_first, list_any, join_with_byte, flat_map, AllBy
 use Rattle.std.proofs.lemmas.Bool.Decides.{eqb_tells}
 use Rattle.std.proofs.lemmas.List.{append-nil}
 use Rattle.certificate.specs.Decoding.{cut, parts}
-use Rattle.certificate.specs.Reading.{line_at}
+use Rattle.certificate.specs.Counted.{line_at}
 use Rattle.certificate.proofs.Steps.{some_is, mapped, unmapped, or_parts}
 use Rattle.certificate.proofs.Cuts.{cut_again}
 

@@ -1,11 +1,10 @@
 -- Lists that rise, by the test of each item and the next; and lists in their order.
 use Rattle.std.proofs.Common.{◌≡◌, ℕ, zero, suc, ◌+◌, ◌<◌, Bool, true, false, List, [], ◌∷◌, length, get_or, Some, refl, ap, sym, arith, Ordering}
 use Rattle.std.specs.Ordering.{is_lt, is_some_and}
-use Rattle.std.specs.Cmp.Lexicographic.{slice_partial_cmp, lists_agrees}
+use Rattle.std.specs.Cmp.Lexicographic.{slice_cmp, slice_partial_cmp, lists_agrees}
 use Rattle.std.specs.List.{AllAdjacentBelow, IsAllAdjacentAnswer}
 use Rattle.std.proofs.lemmas.Bool.{and_right}
-use Rattle.plain_list.specs.Texts.{rises, compare_texts}
-use Rattle.certificate.specs.Content.{compare_atoms}
+use Rattle.plain_list.specs.Texts.{rises}
 
 module _ {A : Type 0} (cmp : A → A → Ordering) where
   rises_all : (xs : List A) → AllAdjacentBelow (λ x y. true ≡ is_lt (cmp x y)) xs (length xs) → rises cmp xs ≡ true
@@ -30,6 +29,6 @@ module _ {A : Type 0} (cmp : A → A → Ordering) where
   rises_answer xs true all = sym (rises_all xs all)
   rises_answer xs false fall = sym (falls_at xs fall.0 fall.1 fall.2)
 
--- lists of texts are compared as slices are
-pub below_answer : (xs ys : List (List ℕ)) → is_some_and is_lt (slice_partial_cmp (λ x y. Some (compare_texts x y)) xs ys) ≡ is_lt (compare_atoms xs ys)
-below_answer xs ys = ap (is_some_and is_lt) (lists_agrees (λ x y. refl) xs ys)
+-- lists are compared as slices are
+pub below_answer : {A : Type 0} (cmp : A → A → Ordering) (xs ys : List A) → is_some_and is_lt (slice_partial_cmp (λ x y. Some (cmp x y)) xs ys) ≡ is_lt (slice_cmp cmp xs ys)
+below_answer cmp xs ys = ap (is_some_and is_lt) (lists_agrees (λ x y. refl) xs ys)

@@ -1,201 +1,123 @@
--- A row and its line: what was read is spelled so, and what is spelled so is read.
-use Rattle.std.proofs.Common.{◌≡◌, ℕ, ◌≤◌, eqb, List, [], ◌∷◌, ◌++◌, length, Some, None, option_map, refl, ap, sym, subst, ◌∙◌, inl, inr, arith, append_assoc}
+-- A row of version 2 and its line: what was read is spelled so, and what is spelled so is read.
+use Rattle.std.proofs.Common.{◌≡◌, ℕ, ◌<◌, ◌≤◌, true, List, [], ◌∷◌, ◌++◌, length, Some, None, option_map, refl, ap, subst, ◌∙◌, inl, inr, arith}
 use Rattle.std.specs.Prelude.{codes, decimal}
 use Rattle.std.specs.Option.{option_or}
-use Rattle.std.specs.List.{join_with_byte, flat_map, AllByRecursion}
-use Rattle.std.proofs.lemmas.Bool.{eqb-true}
-use Rattle.std.proofs.lemmas.List.{nil_from_length}
-use Rattle.std.proofs.lemmas.List.Splits.{join_with_byte-slice_split}
-use Rattle.certificate.specs.declared.limits.TheConstants.{MOST_UNITS}
-use Rattle.certificate.specs.declared.model.Act.{Act}
-use Rattle.certificate.specs.declared.model.Act.TheVariants.{GiveUp, Goal, Do}
-use Rattle.certificate.specs.declared.model.Row.{Row}
-use Rattle.certificate.specs.Names.{IsNameList}
-use Rattle.certificate.specs.Spelling.{spaced, act_text, atoms_text, row_line}
+use Rattle.std.specs.Str.{all_ascii_digits}
+use Rattle.std.specs.Char.{is_ascii_digit}
+use Rattle.std.specs.List.{flat_map, AllByRecursion}
+use Rattle.std.proofs.lemmas.Bool.{and_parts, leb-true, ne_eqb}
+use Rattle.std.proofs.lemmas.Fmt.{decimal_nonempty}
+use Rattle.certificate.specs.declared.limits.TheConstants.{MOST_COUNT}
+use Rattle.certificate.specs.declared.act.Act.{Act}
+use Rattle.certificate.specs.declared.act.Act.TheVariants.{GiveUp, Goal, Do}
+use Rattle.certificate.specs.Rows.{Row}
+use Rattle.certificate.specs.Spelling.{spaced, act_text, numbers_text, row_line}
 use Rattle.certificate.specs.Content.{IsAct, IsRow}
-use Rattle.certificate.specs.Decoding.{◌>>=◌, only_if, behind, cut, parts, number_of, are_names, enclosed, list_at, word_at, act_at, atom_of, atom_at, atoms_of, field_at, row_of}
-use Rattle.certificate.proofs.Steps.{some_is, kept, chained, mapped, either}
-use Rattle.certificate.proofs.Cuts.{behind_is_rest, cut_is_parts, cut_again}
-use Rattle.certificate.proofs.Decimals.{number_is, number_again, decimal_lacks}
-use Rattle.certificate.proofs.Names.{Lacks, Lacks-append, list_inner, enclosed_is_list, list_lacks_feed}
-use Rattle.certificate.proofs.Atoms.{atoms_more}
-
--- ---- a number that a blank ends
-
-pub field_is : (text : List ℕ) (n : ℕ) (rest : List ℕ) → field_at text ≡ Some (n, rest) → (text ≡ spaced (decimal n) rest) × (n ≤ MOST_UNITS)
-unfolding field_at
-field_is text n rest e =
-    let found = chained (cut 32 text) (λ p. number_of p.0 >>= λ m. Some (m, p.1)) (n, rest) e in
-    let number = chained (number_of found.0.0) (λ m. Some (m, found.0.1)) (n, rest) found.2 in
-    let is = some_is (number.0, found.0.1) (n, rest) number.2 in
-    let value : number.0 ≡ n = ap (λ (p : ℕ × List ℕ). p.0) is in
-    let after : found.0.1 ≡ rest = ap (λ (p : ℕ × List ℕ). p.1) is in
-    let spelled = number_is found.0.0 number.0 number.1 in
-    let whole : text ≡ spaced found.0.0 found.0.1 = cut_is_parts 32 text found.0.0 found.0.1 found.1 in
-    (whole ∙ ap (λ (x : List ℕ). spaced x found.0.1) (spelled.0 ∙ ap decimal value) ∙ ap (spaced (decimal n)) after, omega (arith, spelled.1))
-
-pub field_again : (n : ℕ) (rest : List ℕ) → n ≤ MOST_UNITS → field_at (spaced (decimal n) rest) ≡ Some (n, rest)
-unfolding field_at
-field_again n rest below = rw (cut_again 32 (decimal n) rest (decimal_lacks 32 n (omega arith) below), number_again n below) refl
+use Rattle.certificate.specs.Decoding.{◌>>=◌, behind, parts, place_at, spaced_places, word_at, act_at, field_at, row_of}
+use Rattle.certificate.proofs.Steps.{some_is, chained, mapped, either}
+use Rattle.certificate.proofs.Cuts.{behind_is_rest}
+use Rattle.certificate.proofs.Decimals.{digits_decimal_of, decimal_lacks}
+use Rattle.certificate.proofs.Numbers.{field_is, field_again, place_is, place_again, spaced_are, spaced_again}
+use Rattle.certificate.proofs.Names.{Lacks, Lacks-append}
+use Rattle.certificate.proofs.NamedRowLaws.{word_is}
 
 -- ---- an act
 
-list_is_text : (text list rest : List ℕ) → list_at text ≡ Some (list, rest) → (text ≡ list ++ rest) × IsNameList list
-unfolding list_at
-list_is_text text list rest e =
-    let opened = chained (behind (codes "(") text) (λ o. cut 41 o >>= λ p. only_if (are_names p.0) (enclosed p.0, p.1)) (list, rest) e in
-    let closed = chained (cut 41 opened.0) (λ p. only_if (are_names p.0) (enclosed p.0, p.1)) (list, rest) opened.2 in
-    let named = kept (are_names closed.0.0) (Some (enclosed closed.0.0, closed.0.1)) (list, rest) closed.2 in
-    let is = some_is (enclosed closed.0.0, closed.0.1) (list, rest) named.1 in
-    let whole : text ≡ enclosed closed.0.0 ++ closed.0.1 =
-    behind_is_rest (codes "(") text opened.0 opened.1 ∙ ap (λ (x : List ℕ). 40 ∷ x) (cut_is_parts 41 opened.0 closed.0.0 closed.0.1 closed.1 ∙ sym (append_assoc closed.0.0 (41 ∷ []) closed.0.1)) in
-    (whole ∙ ap (λ (p : List ℕ × List ℕ). p.0 ++ p.1) is, subst IsNameList (ap (λ (p : List ℕ × List ℕ). p.0) is) (enclosed_is_list closed.0.0 named.0))
-
-list_again : (list rest : List ℕ) → IsNameList list → list_at (list ++ rest) ≡ Some (list, rest)
-unfolding list_at
-list_again list rest is =
-    let inner = list_inner list is in
-    let names : List ℕ = join_with_byte 32 is.names in
-    let regrouped : enclosed names ++ rest ≡ 40 ∷ (names ++ 41 ∷ rest) = ap (λ (x : List ℕ). 40 ∷ x) (append_assoc names (41 ∷ []) rest) in
-    let found : list_at (40 ∷ (names ++ 41 ∷ rest)) ≡ Some (enclosed names, rest) = rw (cut_again 41 names rest inner.lacks_close, inner.named) refl in
-    subst (λ (x : List ℕ). list_at (x ++ rest) ≡ Some (x, rest)) (sym inner.spelled) (ap list_at regrouped ∙ found)
-
-abbrev done : Act → List ℕ → Act × List ℕ
-done act rest = (act, rest)
-
-abbrev listed : List ℕ × List ℕ → Act × List ℕ
-listed list = (Do list.0, list.1)
+abbrev placed : ℕ × List ℕ → Act × List ℕ
+placed place = (Do place.0, place.1)
 
 abbrev joined : Act × List ℕ → List ℕ
 joined p = act_text p.0 ++ p.1
 
-word_is : (word : List ℕ) (act : Act) (text : List ℕ) (x : Act × List ℕ) → word_at word act text ≡ Some x → (text ≡ word ++ x.1) × (act ≡ x.0)
-word_is word act text x e =
-    let found = mapped (done act) (behind word text) x e in
-    (behind_is_rest word text found.0 found.1 ∙ ap (λ (p : Act × List ℕ). word ++ p.1) found.2, ap (λ (p : Act × List ℕ). p.0) found.2)
-
-pub act_is : (text : List ℕ) (act : Act) (rest : List ℕ) → act_at text ≡ Some (act, rest) → (text ≡ act_text act ++ rest) × IsAct act
+pub act_is : (acts : ℕ) (text : List ℕ) (act : Act) (rest : List ℕ) → act_at acts text ≡ Some (act, rest) → (text ≡ act_text act ++ rest) × IsAct acts act
 unfolding act_at
-act_is text act rest e =
-    elim (either (word_at (codes "give-up") GiveUp text) (option_or (word_at (codes "goal") Goal text) (option_map listed (list_at text))) (act, rest) e) [
+act_is acts text act rest e =
+    elim (either (word_at (codes "give-up") GiveUp text) (option_or (word_at (codes "goal") Goal text) (option_map placed (place_at acts text))) (act, rest) e) [
       | inl give_up ↦ (
           let word = word_is (codes "give-up") GiveUp text (act, rest) give_up in
-          (word.0 ∙ ap (λ (a : Act). act_text a ++ rest) word.1, subst IsAct word.1 tt)
+          (word.0 ∙ ap (λ (a : Act). act_text a ++ rest) word.1, subst (IsAct acts) word.1 tt)
           )
-      | inr others ↦ elim (either (word_at (codes "goal") Goal text) (option_map listed (list_at text)) (act, rest) others) [
+      | inr others ↦ elim (either (word_at (codes "goal") Goal text) (option_map placed (place_at acts text)) (act, rest) others) [
         | inl goal ↦ (
             let word = word_is (codes "goal") Goal text (act, rest) goal in
-            (word.0 ∙ ap (λ (a : Act). act_text a ++ rest) word.1, subst IsAct word.1 tt)
+            (word.0 ∙ ap (λ (a : Act). act_text a ++ rest) word.1, subst (IsAct acts) word.1 tt)
             )
-        | inr name ↦ (
-            let found = mapped listed (list_at text) (act, rest) name in
-            let spelled = list_is_text text found.0.0 found.0.1 found.1 in
-            (spelled.0 ∙ ap joined found.2, subst IsAct (ap (λ (p : Act × List ℕ). p.0) found.2) spelled.1)
+        | inr number ↦ (
+            let found = mapped placed (place_at acts text) (act, rest) number in
+            let spelled = place_is acts text found.0.0 found.0.1 found.1 in
+            (spelled.0 ∙ ap joined found.2, subst (IsAct acts) (ap (λ (p : Act × List ℕ). p.0) found.2) spelled.1)
             )
       ]
     ]
 
-pub act_again : (act : Act) (rest : List ℕ) → IsAct act → act_at (act_text act ++ rest) ≡ Some (act, rest)
+-- no word begins with a digit
+no_word : (letter : ℕ) (front ds rest : List ℕ) → 57 < letter → 0 < length ds → all_ascii_digits ds ≡ true → behind (letter ∷ front) (ds ++ rest) ≡ None
+no_word letter front [] rest high some digits = absurd (omega (arith, some))
+no_word letter front (d ∷ ds) rest high some digits =
+    let both = and_parts (is_ascii_digit d) (all_ascii_digits ds) digits in
+    let range = and_parts _ _ both.0 in
+    let low : d ≤ 57 = leb-true d 57 range.1 in
+    rw (ne_eqb d letter (λ e. omega (arith, low, high, e))) refl
+
+pub act_again : (acts : ℕ) (act : Act) (rest : List ℕ) → acts ≤ MOST_COUNT → IsAct acts act → act_at acts (act_text act ++ 32 ∷ rest) ≡ Some (act, 32 ∷ rest)
 unfolding act_at
-act_again GiveUp rest is = refl
-act_again Goal rest is = refl
-act_again (Do name) rest is =
-    let inner = list_inner name is in
-    let no_give_up : behind (codes "give-up") (name ++ rest) ≡ None = rw inner.spelled refl in
-    let no_goal : behind (codes "goal") (name ++ rest) ≡ None = rw inner.spelled refl in
-    rw (no_give_up, no_goal, list_again name rest is) refl
-
--- ---- atoms
-
-atom_is_list : (part atom : List ℕ) → atom_of part ≡ Some atom → ((rest : List ℕ) → part ++ 41 ∷ rest ≡ 32 ∷ (atom ++ rest)) × IsNameList atom
-unfolding atom_of
-atom_is_list part atom e =
-    let opened = chained (behind (codes " (") part) (λ names. only_if (are_names names) (enclosed names)) atom e in
-    let named = kept (are_names opened.0) (Some (enclosed opened.0)) atom opened.2 in
-    let same = some_is (enclosed opened.0) atom named.1 in
-    let is : part ≡ 32 ∷ 40 ∷ opened.0 = behind_is_rest (codes " (") part opened.0 opened.1 in (
-      λ rest. ap (λ (x : List ℕ). x ++ 41 ∷ rest) is ∙ ap (λ (x : List ℕ). 32 ∷ 40 ∷ x) (sym (append_assoc opened.0 (41 ∷ []) rest)) ∙ ap (λ (x : List ℕ). 32 ∷ (x ++ rest)) same,
-      subst IsNameList same (enclosed_is_list opened.0 named.0),
-    )
-
--- the parts of the atoms, joined
-pub atoms_are : (texts : List (List ℕ)) (atoms : List (List ℕ)) → atoms_of texts ≡ Some atoms → (join_with_byte 41 texts ≡ flat_map (λ atom. 32 ∷ atom) atoms) × AllByRecursion IsNameList atoms
-atoms_are [] atoms e = absurd cc
-atoms_are (part ∷ []) atoms e =
-    let empty = kept (eqb (length part) 0) (Some []) atoms e in
-    let none : [] ≡ atoms = some_is [] atoms empty.1 in
-    let nil : part ≡ [] = nil_from_length part (eqb-true (length part) 0 empty.0) in
-    subst (λ (all : List (List ℕ)). (part ≡ flat_map (λ atom. 32 ∷ atom) all) × AllByRecursion IsNameList all) none (nil, tt)
-atoms_are (part ∷ next ∷ more) atoms e =
-    let first = chained (atom_of part) (λ atom. atoms_of (next ∷ more) >>= λ others. Some (atom ∷ others)) atoms e in
-    let rest = chained (atoms_of (next ∷ more)) (λ others. Some (first.0 ∷ others)) atoms first.2 in
-    let same : first.0 ∷ rest.0 ≡ atoms = some_is (first.0 ∷ rest.0) atoms rest.2 in
-    let one = atom_is_list part first.0 first.1 in
-    let others = atoms_are (next ∷ more) rest.0 rest.1 in
-    subst (λ (all : List (List ℕ)). (join_with_byte 41 (part ∷ next ∷ more) ≡ flat_map (λ atom. 32 ∷ atom) all) × AllByRecursion IsNameList all) same (
-      ap (λ (x : List ℕ). part ++ 41 ∷ x) others.0 ∙ one.0 (flat_map (λ atom. 32 ∷ atom) rest.0),
-      (one.1, others.1),
-    )
-
-atom_again : (atom rest : List ℕ) → IsNameList atom → atom_at (32 ∷ (atom ++ rest)) ≡ Some (atom, rest)
-unfolding atom_at atom_of
-atom_again atom rest is =
-    let inner = list_inner atom is in
-    let names : List ℕ = join_with_byte 32 is.names in
-    let regrouped : 32 ∷ (enclosed names ++ rest) ≡ (32 ∷ 40 ∷ names) ++ 41 ∷ rest = ap (λ (x : List ℕ). 32 ∷ 40 ∷ x) (append_assoc names (41 ∷ []) rest) in
-    let lacks : Lacks 41 (32 ∷ 40 ∷ names) = inner.lacks_close in
-    let found : atom_at ((32 ∷ 40 ∷ names) ++ 41 ∷ rest) ≡ Some (enclosed names, rest) = rw (cut_again 41 (32 ∷ 40 ∷ names) rest lacks, inner.named) refl in
-    subst (λ (x : List ℕ). atom_at (32 ∷ (x ++ rest)) ≡ Some (x, rest)) (sym inner.spelled) (ap atom_at regrouped ∙ found)
-
-pub atoms_again : (atoms : List (List ℕ)) → AllByRecursion IsNameList atoms → atoms_of (parts 41 (flat_map (λ atom. 32 ∷ atom) atoms)) ≡ Some atoms
-atoms_again [] are = refl
-atoms_again (atom ∷ atoms) are =
-    let rest : List ℕ = flat_map (λ a. 32 ∷ a) atoms in
-    atoms_more (32 ∷ (atom ++ rest)) atom rest (atom_again atom rest are.0) ∙ rw (atoms_again atoms are.1) refl
+act_again acts GiveUp rest few is = refl
+act_again acts Goal rest few is = refl
+act_again acts (Do n) rest few is =
+    let digits = digits_decimal_of n (omega (arith, few, is)) in
+    let some = decimal_nonempty n (omega (arith, few, is)) in
+    rw (
+      no_word 103 (codes "ive-up") (decimal n) (32 ∷ rest) (omega arith) some digits,
+      no_word 103 (codes "oal") (decimal n) (32 ∷ rest) (omega arith) some digits,
+      place_again acts n (32 ∷ rest) is (omega (arith, few, is)) refl,
+    ) refl
 
 -- ---- a row
 
-pub row_is : (line : List ℕ) (r : Row) → row_of line ≡ Some r → (line ≡ row_line r) × IsRow r
+pub row_is : (atoms acts : ℕ) (line : List ℕ) (r : Row) → row_of atoms acts line ≡ Some r → (line ≡ row_line r) × IsRow atoms acts r
 unfolding row_of
-row_is line r e =
-    let lower = chained (field_at line) (λ l. field_at l.1 >>= λ u. act_at u.1 >>= λ a. behind (codes " :") a.1 >>= λ list. atoms_of (parts 41 list) >>= λ atoms. Some (record { lower = l.0; upper = u.0; act = a.0; atoms = atoms })) r e in
-    let upper = chained (field_at lower.0.1) (λ u. act_at u.1 >>= λ a. behind (codes " :") a.1 >>= λ list. atoms_of (parts 41 list) >>= λ atoms. Some (record { lower = lower.0.0; upper = u.0; act = a.0; atoms = atoms })) r lower.2 in
-    let act = chained (act_at upper.0.1) (λ a. behind (codes " :") a.1 >>= λ list. atoms_of (parts 41 list) >>= λ atoms. Some (record { lower = lower.0.0; upper = upper.0.0; act = a.0; atoms = atoms })) r upper.2 in
-    let list = chained (behind (codes " :") act.0.1) (λ list. atoms_of (parts 41 list) >>= λ atoms. Some (record { lower = lower.0.0; upper = upper.0.0; act = act.0.0; atoms = atoms })) r act.2 in
-    let atoms = chained (atoms_of (parts 41 list.0)) (λ atoms. Some (record { lower = lower.0.0; upper = upper.0.0; act = act.0.0; atoms = atoms })) r list.2 in
-    let made : Row = record { lower = lower.0.0; upper = upper.0.0; act = act.0.0; atoms = atoms.0 } in
-    let same : made ≡ r = some_is made r atoms.2 in
+row_is atoms acts line r e =
+    let lower = chained (field_at line) (λ l. field_at l.1 >>= λ u. act_at acts u.1 >>= λ a. behind (codes " :") a.1 >>= λ list. spaced_places atoms (parts 32 list) >>= λ numbers. Some (record { lower = l.0; upper = u.0; act = a.0; atoms = numbers })) r e in
+    let upper = chained (field_at lower.0.1) (λ u. act_at acts u.1 >>= λ a. behind (codes " :") a.1 >>= λ list. spaced_places atoms (parts 32 list) >>= λ numbers. Some (record { lower = lower.0.0; upper = u.0; act = a.0; atoms = numbers })) r lower.2 in
+    let act = chained (act_at acts upper.0.1) (λ a. behind (codes " :") a.1 >>= λ list. spaced_places atoms (parts 32 list) >>= λ numbers. Some (record { lower = lower.0.0; upper = upper.0.0; act = a.0; atoms = numbers })) r upper.2 in
+    let list = chained (behind (codes " :") act.0.1) (λ list. spaced_places atoms (parts 32 list) >>= λ numbers. Some (record { lower = lower.0.0; upper = upper.0.0; act = act.0.0; atoms = numbers })) r act.2 in
+    let numbers = chained (spaced_places atoms (parts 32 list.0)) (λ numbers. Some (record { lower = lower.0.0; upper = upper.0.0; act = act.0.0; atoms = numbers })) r list.2 in
+    let made : Row = record { lower = lower.0.0; upper = upper.0.0; act = act.0.0; atoms = numbers.0 } in
+    let same : made ≡ r = some_is made r numbers.2 in
     let l = field_is line lower.0.0 lower.0.1 lower.1 in
     let u = field_is lower.0.1 upper.0.0 upper.0.1 upper.1 in
-    let a = act_is upper.0.1 act.0.0 act.0.1 act.1 in
+    let a = act_is acts upper.0.1 act.0.0 act.0.1 act.1 in
     let behind_act : act.0.1 ≡ 32 ∷ 58 ∷ list.0 = behind_is_rest (codes " :") act.0.1 list.0 list.1 in
-    let found = atoms_are (parts 41 list.0) atoms.0 atoms.1 in
-    let listed : list.0 ≡ flat_map (λ atom. 32 ∷ atom) atoms.0 = sym (join_with_byte-slice_split 41 list.0) ∙ found.0 in
-    let tail : upper.0.1 ≡ spaced (act_text act.0.0) (atoms_text atoms.0) = a.0 ∙ ap (λ (x : List ℕ). act_text act.0.0 ++ x) (behind_act ∙ ap (λ (x : List ℕ). 32 ∷ 58 ∷ x) listed) in
+    let found = spaced_are atoms list.0 numbers.0 numbers.1 in
+    let tail : upper.0.1 ≡ spaced (act_text act.0.0) (numbers_text numbers.0) = a.0 ∙ ap (λ (x : List ℕ). act_text act.0.0 ++ x) (behind_act ∙ ap (λ (x : List ℕ). 32 ∷ 58 ∷ x) found.0) in
     let whole : line ≡ row_line made = l.0 ∙ ap (spaced (decimal lower.0.0)) (u.0 ∙ ap (spaced (decimal upper.0.0)) tail) in
-    subst (λ (x : Row). (line ≡ row_line x) × IsRow x) same (whole, record { lower = l.1; upper = u.1; act = a.1; atoms = found.1 })
+    subst (λ (x : Row). (line ≡ row_line x) × IsRow atoms acts x) same (whole, record { lower = l.1; upper = u.1; act = a.1; atoms = found.1 })
 
-pub row_again : (r : Row) → IsRow r → row_of (row_line r) ≡ Some r
+pub row_again : (atoms acts : ℕ) (r : Row) → atoms ≤ MOST_COUNT → acts ≤ MOST_COUNT → IsRow atoms acts r → row_of atoms acts (row_line r) ≡ Some r
 unfolding row_of
-row_again r is =
-    let tail : List ℕ = 32 ∷ atoms_text r.atoms in
-    let list : List ℕ = flat_map (λ atom. 32 ∷ atom) r.atoms in
-    rw (field_again r.lower (spaced (decimal r.upper) (act_text r.act ++ tail)) is.lower, field_again r.upper (act_text r.act ++ tail) is.upper, act_again r.act tail is.act, atoms_again r.atoms is.atoms) refl
+row_again atoms acts r few_atoms few_acts is =
+    let tail : List ℕ = numbers_text r.atoms in
+    rw (
+      field_again r.lower (spaced (decimal r.upper) (act_text r.act ++ 32 ∷ tail)) is.lower,
+      field_again r.upper (act_text r.act ++ 32 ∷ tail) is.upper,
+      act_again acts r.act tail few_acts is.act,
+      spaced_again atoms r.atoms (omega (arith, few_atoms)) is.atoms,
+    ) refl
 
 -- no line feed stands in a row's line
-atoms_lack_feed : (atoms : List (List ℕ)) → AllByRecursion IsNameList atoms → Lacks 10 (flat_map (λ atom. 32 ∷ atom) atoms)
-atoms_lack_feed [] are = refl
-atoms_lack_feed (atom ∷ atoms) are = Lacks-append 10 atom (flat_map (λ a. 32 ∷ a) atoms) (list_lacks_feed atom are.0) (atoms_lack_feed atoms are.1)
+numbers_lack_feed : (atoms : ℕ) (numbers : List ℕ) → atoms ≤ MOST_COUNT → AllByRecursion (λ n. n < atoms) numbers → Lacks 10 (flat_map (λ n. 32 ∷ decimal n) numbers)
+numbers_lack_feed atoms [] few are = refl
+numbers_lack_feed atoms (n ∷ numbers) few are = Lacks-append 10 (decimal n) (flat_map (λ m. 32 ∷ decimal m) numbers) (decimal_lacks 10 n (omega arith) (omega (arith, few, are.0))) (numbers_lack_feed atoms numbers few are.1)
 
-act_lacks_feed : (act : Act) → IsAct act → Lacks 10 (act_text act)
-act_lacks_feed GiveUp is = refl
-act_lacks_feed Goal is = refl
-act_lacks_feed (Do name) is = list_lacks_feed name is
+act_lacks_feed : (acts : ℕ) (act : Act) → acts ≤ MOST_COUNT → IsAct acts act → Lacks 10 (act_text act)
+act_lacks_feed acts GiveUp few is = refl
+act_lacks_feed acts Goal few is = refl
+act_lacks_feed acts (Do n) few is = decimal_lacks 10 n (omega arith) (omega (arith, few, is))
 
-pub row_lacks_feed : (r : Row) → IsRow r → Lacks 10 (row_line r)
-row_lacks_feed r is =
+pub row_lacks_feed : (atoms acts : ℕ) (r : Row) → atoms ≤ MOST_COUNT → acts ≤ MOST_COUNT → IsRow atoms acts r → Lacks 10 (row_line r)
+row_lacks_feed atoms acts r few_atoms few_acts is =
     Lacks-append 10 (decimal r.lower) _ (decimal_lacks 10 r.lower (omega arith) is.lower) (
     Lacks-append 10 (decimal r.upper) _ (decimal_lacks 10 r.upper (omega arith) is.upper) (
-    Lacks-append 10 (act_text r.act) _ (act_lacks_feed r.act is.act) (atoms_lack_feed r.atoms is.atoms)
+    Lacks-append 10 (act_text r.act) _ (act_lacks_feed acts r.act few_acts is.act) (numbers_lack_feed atoms r.atoms few_atoms is.atoms)
     )
     )

@@ -1,265 +1,326 @@
 -- A certificate and its text: what was read is spelled so, and what is spelled so is read.
-use Rattle.std.proofs.Common.{◌≡◌, ℕ, zero, suc, ◌+◌, ◌≤◌, Bool, true, false, cond, ◌&&◌, eqb, ltb, leb, List, [], ◌∷◌, ◌++◌, length, map, Option, Some, None, Result, Ok, Err, refl, ap, sym, subst, ◌∙◌, arith, append_assoc}
-use Rattle.std.specs.Prelude.{codes, decimal, IsTrue}
-use Rattle.std.specs.List.{AllByRecursion}
-use Rattle.std.specs.Str.{bytes_eq}
-use Rattle.std.proofs.lemmas.Bool.{and_parts, eqb-true, leb-true, ltb-true, lt-ltb, le-leb}
-use Rattle.std.proofs.lemmas.List.{nil_from_length}
-use Rattle.std.proofs.lemmas.Slice.Eq.{bytes_eq-Decides}
-use Rattle.certificate.specs.declared.limits.TheConstants.{MOST_UNITS, MOST_ROWS}
-use Rattle.certificate.specs.declared.model.Row.{Row}
-use Rattle.certificate.specs.declared.refusal.CertRefusal.{CertRefusal}
-use Rattle.certificate.specs.declared.refusal.CertRefusal.TheVariants.{Syntax, Order, Count}
-use Rattle.certificate.specs.Spelling.{spaced, penalty_line, interval_line, states_line, row_line}
-use Rattle.certificate.specs.Content.{Content, compare_atoms, IsRow, IsCertificate, lines_of}
-use Rattle.plain_list.specs.Texts.{rises, rises_behind, compare_texts}
-use Rattle.certificate.specs.Decoding.{only_if, behind, parts, number_of, field_at, penalty_of, interval_of, count_of, row_of}
-use Rattle.certificate.specs.Decoding as decoding
+use Rattle.std.proofs.Common.{◌≡◌, ◌⊎◌, inl, inr, ℕ, ◌≤◌, Bool, true, false, cond, ◌&&◌, ◌||◌, ltb, eqb, List, [], ◌∷◌, ◌++◌, length, map, Result, Ok, Err, refl, ap, sym, subst, ◌∙◌, arith, append_assoc}
+use Rattle.std.specs.Prelude.{codes, decimal, IfOk}
+use Rattle.std.specs.List.{join_with_byte, AllByRecursion}
+use Rattle.std.proofs.lemmas.Bool.{and_right, le-ltb, ltb-false}
+use Rattle.std.proofs.lemmas.List.{length-map}
+use Rattle.std.proofs.lemmas.List.Splits.{join_with_byte-slice_split}
 use Rattle.plain_list.specs.Results.{◌>>=◌}
-use Rattle.plain_list.proofs.Results.{bind_ok, ok_is, test_passes, test_fails}
-use Rattle.certificate.specs.Reading.{or_syntax, line_at, said_at, header_of, follows, row_at, rows_at, nothing_at, end_at, read_lines}
-use Rattle.certificate.proofs.Steps.{some_is, kept, chained}
-use Rattle.certificate.proofs.Cuts.{behind_is_rest}
-use Rattle.certificate.proofs.Decimals.{number_is, number_again}
-use Rattle.certificate.proofs.RowLaws.{field_is, field_again, row_is}
+use Rattle.plain_list.proofs.Results.{bind_ok, ok_is, test_fails}
+use Rattle.certificate.specs.declared.limits.TheConstants.{MOST_BYTES, MOST_BYTES_1, MOST_COUNT}
+use Rattle.certificate.specs.declared.refusal.CertRefusal.{CertRefusal}
+use Rattle.certificate.specs.declared.refusal.CertRefusal.TheVariants.{TooLong}
+use Rattle.certificate.specs.declared.named.NamedRow.{NamedRow}
+use Rattle.certificate.specs.Names.{IsNameList}
+use Rattle.certificate.specs.Rows.{Row}
+use Rattle.certificate.specs.Spelling.{version_line, penalty_line, interval_line, atoms_line, acts_line, states_line, named_row_line, row_line}
+use Rattle.certificate.specs.Content.{Content, content_of, InRange, IsRow, IsCertificate, named_row, named_rows, named_lines, numbered_lines, lines_of, ended, text_of, most_bytes, IsTextOf}
+use Rattle.certificate.specs.Decoding.{behind, parts, header_of, penalty_of, interval_of}
+use Rattle.certificate.specs.Counted.{said_at}
+use Rattle.certificate.specs.Numbering.{numbered}
+use Rattle.certificate.specs.Reading.{IsNamedRow, is_some, is_too_long, read_named, read_numbered, read_lines, read_of}
+use Rattle.certificate.specs.Answers.{GivesCertificate}
+use Rattle.certificate.proofs.Parts.{parts_ended, join_ended}
+use Rattle.certificate.proofs.Names.{Lacks, Lacks-append, list_lacks_feed}
+use Rattle.certificate.proofs.Decimals.{decimal_lacks}
+use Rattle.certificate.proofs.CountedLaws.{said_is, said_again}
+use Rattle.certificate.proofs.HeadLaws.{header_is, header_again, penalty_is, penalty_again, interval_is, interval_again}
+use Rattle.certificate.proofs.NamedRowLaws.{named_row_lacks_feed}
+use Rattle.certificate.proofs.RowLaws.{row_lacks_feed}
+use Rattle.certificate.proofs.Numbered.{named_again, numbered_again}
+use Rattle.certificate.proofs.NumberedIs.{named_are, numbered_is}
+use Rattle.certificate.proofs.Unused.{uses_are, uses_again}
+use Rattle.certificate.proofs.ReadLaws.{IsNamedRead, read_named_is, read_named_again, AreNumbered, tail_lines, IsNumberedRead, read_numbered_is, read_numbered_again}
 
--- ---- steps that did not fail
+map_itself : (texts : List (List ℕ)) → map (λ text. text) texts ≡ texts
+map_itself [] = refl
+map_itself (text ∷ texts) = ap (λ (x : List (List ℕ)). text ∷ x) (map_itself texts)
 
-abbrev done : {A : Type 0} → A → Result A CertRefusal
-done x = Ok x
+-- ---- the lines of both versions
 
-said : {A : Type 0} (k : ℕ) (o : Option A) (x : A) → or_syntax k o ≡ Ok x → o ≡ Some x
-said k None x e = absurd cc
-said {A} k (Some y) x e = ap (λ (z : A). Some z) (ok_is y x e)
+abbrev head : ℕ → ℕ → ℕ → ℕ → List (List ℕ) → List (List ℕ)
+head version penalty lower upper others = version_line version ∷ penalty_line penalty ∷ interval_line lower upper ∷ others
 
-pub same_text : (a b : List ℕ) → bytes_eq a b ≡ true → a ≡ b
-same_text a b e = (bytes_eq-Decides a b).0 e
+named_lines_are : (penalty lower upper : ℕ) (rows : List NamedRow) → lines_of (numbered penalty lower upper rows) ++ [] ∷ [] ≡ head 1 penalty lower upper (states_line (length rows) ∷ map named_row_line rows ++ codes "end" ∷ [] ∷ [])
+named_lines_are penalty lower upper rows =
+    let c : Content = numbered penalty lower upper rows in
+    ap (λ (n : ℕ). head 1 penalty lower upper (states_line n ∷ ((map named_row_line (named_rows c) ++ codes "end" ∷ []) ++ [] ∷ []))) (length-map rows _)
+    ∙ ap (λ (named : List NamedRow). head 1 penalty lower upper (states_line (length rows) ∷ ((map named_row_line named ++ codes "end" ∷ []) ++ [] ∷ []))) (named_again penalty lower upper rows)
+    ∙ ap (λ (x : List (List ℕ)). head 1 penalty lower upper (states_line (length rows) ∷ x)) (append_assoc (map named_row_line rows) (codes "end" ∷ []) ([] ∷ []))
 
--- ---- a line in its place
+-- three lists with lines between, and what stands behind
+lists_regroup : (a b c : List (List ℕ)) (j n end last : List ℕ) → (a ++ (j ∷ b ++ (n ∷ c ++ end ∷ []))) ++ last ∷ [] ≡ a ++ (j ∷ (b ++ (n ∷ (c ++ end ∷ last ∷ []))))
+lists_regroup a b c j n end last =
+    append_assoc a ((j ∷ b) ++ ((n ∷ c) ++ end ∷ [])) (last ∷ [])
+    ∙ ap (λ (x : List (List ℕ)). a ++ (j ∷ x)) (append_assoc b ((n ∷ c) ++ end ∷ []) (last ∷ []))
+    ∙ ap (λ (x : List (List ℕ)). a ++ (j ∷ (b ++ (n ∷ x)))) (append_assoc c (end ∷ []) (last ∷ []))
 
-line_is : (k : ℕ) (lines : List (List ℕ)) (line : List ℕ) (rest : List (List ℕ)) → line_at k lines ≡ Ok (line, rest) → lines ≡ line ∷ rest
-line_is k [] line rest e = absurd cc
-line_is k (last ∷ []) line rest e = absurd cc
-line_is k (first ∷ next ∷ more) line rest e = ap (λ (p : List ℕ × List (List ℕ)). p.0 ∷ p.1) (ok_is (first, next ∷ more) (line, rest) e)
+numbered_lines_are : (penalty lower upper : ℕ) (atoms acts : List (List ℕ)) (rows : List Row) → lines_of (content_of 2 penalty lower upper atoms acts rows) ++ [] ∷ [] ≡ head 2 penalty lower upper (tail_lines atoms acts rows)
+numbered_lines_are penalty lower upper atoms acts rows =
+    let last : List (List ℕ) = states_line (length rows) ∷ (map row_line rows ++ codes "end" ∷ [] ∷ []) in
+    ap (λ (x : List (List ℕ)). head 2 penalty lower upper (atoms_line (length atoms) ∷ x)) (lists_regroup atoms acts (map row_line rows) (acts_line (length acts)) (states_line (length rows)) (codes "end") [])
+    ∙ ap (λ (x : List (List ℕ)). head 2 penalty lower upper (atoms_line (length atoms) ∷ (x ++ (acts_line (length acts) ∷ (acts ++ last))))) (sym (map_itself atoms))
+    ∙ ap (λ (x : List (List ℕ)). head 2 penalty lower upper (atoms_line (length atoms) ∷ (map (λ text. text) atoms ++ (acts_line (length acts) ∷ (x ++ last))))) (sym (map_itself acts))
 
-said_is : {A : Type 0} (form : List ℕ → Option A) (k : ℕ) (lines : List (List ℕ)) (x : A) (rest : List (List ℕ)) → said_at form k lines ≡ Ok (x, rest) → (line : List ℕ) × (lines ≡ line ∷ rest) × (form line ≡ Some x)
-unfolding said_at
-said_is {A} form k lines x rest e =
-    let found = bind_ok (line_at k lines) (λ line. or_syntax k (form line.0) >>= λ y. Ok (y, line.1)) (x, rest) e in
-    let formed = bind_ok (or_syntax k (form found.0.0)) (λ y. Ok (y, found.0.1)) (x, rest) found.2 in
-    let same = ok_is (formed.0, found.0.1) (x, rest) formed.2 in
-    let value = ap (λ p. p.0) same in
-    let after : found.0.1 ≡ rest = ap (λ p. p.1) same in
-    (found.0.0, line_is k lines found.0.0 found.0.1 found.1 ∙ ap (λ (r : List (List ℕ)). found.0.0 ∷ r) after, said k (form found.0.0) formed.0 formed.1 ∙ ap (λ (z : A). Some z) value)
+-- ---- what was read
 
-pub header_is : (line : List ℕ) (u : Unit {0}) → header_of line ≡ Some u → line ≡ codes "cert 1"
-header_is line u e = same_text line (codes "cert 1") (kept (bytes_eq line (codes "cert 1")) (Some tt) u e).0
+abbrev IsReadAs : List (List ℕ) → Content → Type 0
+IsReadAs lines c = IsCertificate c × (lines ≡ lines_of c ++ [] ∷ [])
 
-pub penalty_is : (line : List ℕ) (v : ℕ) → penalty_of line ≡ Some v → (line ≡ penalty_line v) × (1 ≤ v) × (v ≤ MOST_UNITS)
-unfolding penalty_of
-penalty_is line v e =
-    let text = chained (behind (codes "penalty ") line) (λ t. decoding.◌>>=◌ (number_of t) (λ n. only_if (ltb 0 n) n)) v e in
-    let number = chained (number_of text.0) (λ n. only_if (ltb 0 n) n) v text.2 in
-    let above = kept (ltb 0 number.0) (Some number.0) v number.2 in
-    let value : number.0 ≡ v = some_is number.0 v above.1 in
-    let spelled = number_is text.0 number.0 number.1 in
-    let positive = ltb-true 0 number.0 above.0 in
-    (behind_is_rest (codes "penalty ") line text.0 text.1 ∙ ap (spaced (codes "penalty")) (spelled.0 ∙ ap decimal value), omega arith, omega (arith, spelled.1))
-
-pub penalty_again : (v : ℕ) → 1 ≤ v → v ≤ MOST_UNITS → penalty_of (penalty_line v) ≡ Some v
-unfolding penalty_of
-penalty_again v above below = rw (number_again v below, lt-ltb 0 v above) refl
-
-pub interval_is : (line : List ℕ) (lower upper : ℕ) → interval_of line ≡ Some (lower, upper) → (line ≡ interval_line lower upper) × (lower ≤ MOST_UNITS) × (upper ≤ MOST_UNITS)
-unfolding interval_of
-interval_is line lower upper e =
-    let text = chained (behind (codes "interval ") line) (λ t. decoding.◌>>=◌ (field_at t) (λ l. decoding.◌>>=◌ (number_of l.1) (λ u. Some (l.0, u)))) (lower, upper) e in
-    let low = chained (field_at text.0) (λ l. decoding.◌>>=◌ (number_of l.1) (λ u. Some (l.0, u))) (lower, upper) text.2 in
-    let high = chained (number_of low.0.1) (λ u. Some (low.0.0, u)) (lower, upper) low.2 in
-    let same = some_is (low.0.0, high.0) (lower, upper) high.2 in
-    let l : low.0.0 ≡ lower = ap (λ (p : ℕ × ℕ). p.0) same in
-    let u : high.0 ≡ upper = ap (λ (p : ℕ × ℕ). p.1) same in
-    let first = field_is text.0 low.0.0 low.0.1 low.1 in
-    let second = number_is low.0.1 high.0 high.1 in (
-      behind_is_rest (codes "interval ") line text.0 text.1 ∙ ap (spaced (codes "interval")) (first.0 ∙ ap (spaced (decimal low.0.0)) second.0) ∙ ap (λ (p : ℕ × ℕ). interval_line p.0 p.1) same,
-      omega (arith, first.1),
-      omega (arith, second.1),
+named_is : (penalty lower upper : ℕ) (rest : List (List ℕ)) (c : Content) → InRange penalty lower upper → IsNamedRead penalty lower upper rest c → IsReadAs (head 1 penalty lower upper rest) c
+named_is penalty lower upper rest c range read =
+    subst (IsReadAs (head 1 penalty lower upper rest)) (sym read.is) (
+      numbered_is penalty lower upper read.rows range.penalty_in range.lower_in range.upper_in read.count read.are,
+      ap (head 1 penalty lower upper) read.spelled ∙ sym (named_lines_are penalty lower upper read.rows),
     )
 
-pub interval_again : (lower upper : ℕ) → lower ≤ MOST_UNITS → upper ≤ MOST_UNITS → interval_of (interval_line lower upper) ≡ Some (lower, upper)
-unfolding interval_of
-interval_again lower upper l u = rw (field_again lower (decimal upper) l, number_again upper u) refl
+pub content_is : (penalty lower upper : ℕ) (atoms acts : List (List ℕ)) (rows : List Row) → InRange penalty lower upper → AreNumbered atoms acts rows → IsCertificate (content_of 2 penalty lower upper atoms acts rows)
+content_is penalty lower upper atoms acts rows range are =
+    let used = uses_are (length atoms) (length acts) rows tt are.used in record {
+      version = inr refl;
+      penalty = range.penalty_in;
+      lower = range.lower_in;
+      upper = range.upper_in;
+      count = are.few.2;
+      atoms = are.atoms_formed;
+      acts = are.acts_formed;
+      atoms_rise = are.atoms_rise;
+      acts_rise = are.acts_rise;
+      few_atoms = λ e. are.few.0;
+      few_acts = λ e. are.few.1;
+      atoms_used = used.0;
+      acts_used = used.1;
+      rows = are.rows_formed;
+      numbers_rise = are.numbers_rise;
+      rows_rise = are.rows_rise;
+    }
 
-pub count_is : (line : List ℕ) (n : ℕ) → count_of line ≡ Some n → (line ≡ states_line n) × (n ≤ MOST_ROWS)
-unfolding count_of
-count_is line n e =
-    let text = chained (behind (codes "states ") line) (λ t. decoding.◌>>=◌ (number_of t) (λ m. only_if (leb m MOST_ROWS) m)) n e in
-    let number = chained (number_of text.0) (λ m. only_if (leb m MOST_ROWS) m) n text.2 in
-    let below = kept (leb number.0 MOST_ROWS) (Some number.0) n number.2 in
-    let value : number.0 ≡ n = some_is number.0 n below.1 in
-    let spelled = number_is text.0 number.0 number.1 in
-    let few = leb-true number.0 MOST_ROWS below.0 in
-    (behind_is_rest (codes "states ") line text.0 text.1 ∙ ap (spaced (codes "states")) (spelled.0 ∙ ap decimal value), omega arith)
+numbers_are : (penalty lower upper : ℕ) (rest : List (List ℕ)) (c : Content) → InRange penalty lower upper → IsNumberedRead penalty lower upper rest c → IsReadAs (head 2 penalty lower upper rest) c
+numbers_are penalty lower upper rest c range read =
+    subst (IsReadAs (head 2 penalty lower upper rest)) (sym read.is) (
+      content_is penalty lower upper read.atoms read.acts read.rows range read.are,
+      ap (head 2 penalty lower upper) read.spelled ∙ sym (numbered_lines_are penalty lower upper read.atoms read.acts read.rows),
+    )
 
-pub count_again : (n : ℕ) → n ≤ MOST_ROWS → count_of (states_line n) ≡ Some n
-unfolding count_of
-count_again n few = rw (number_again n (omega arith), le-leb n MOST_ROWS few) refl
+-- what stands behind the first three lines
+abbrev from_head : ℕ → ℕ → ℕ → ℕ → List (List ℕ) → Result Content CertRefusal
+from_head version penalty lower upper rest = cond (eqb version 1) (read_named penalty lower upper rest) (read_numbered penalty lower upper rest)
 
--- ---- rows
+head_is : (version penalty lower upper : ℕ) (rest : List (List ℕ)) (c : Content) → (version ≡ 1) ⊎ (version ≡ 2) → InRange penalty lower upper → from_head version penalty lower upper rest ≡ Ok c → IsReadAs (head version penalty lower upper rest) c
+head_is version penalty lower upper rest c (inl one) range e =
+    subst (λ (v : ℕ). IsReadAs (head v penalty lower upper rest) c) (sym one) (named_is penalty lower upper rest c range (read_named_is penalty lower upper rest c (rw one at e)))
+head_is version penalty lower upper rest c (inr two) range e =
+    subst (λ (v : ℕ). IsReadAs (head v penalty lower upper rest) c) (sym two) (numbers_are penalty lower upper rest c range (read_numbered_is penalty lower upper rest c (rw two at e)))
 
--- rows that may stand behind a row with these atoms, if there is one
-abbrev pub rise_behind : Option (List (List ℕ)) → List (List (List ℕ)) → Bool
-rise_behind None rows = rises compare_atoms rows
-rise_behind (Some before) rows = rises_behind compare_atoms before rows
+pub read_is : (lines : List (List ℕ)) (c : Content) → read_lines lines ≡ Ok c → IsReadAs lines c
+unfolding read_lines
+read_is lines c e =
+    let version = bind_ok (said_at header_of 1 lines) (λ version. said_at penalty_of 2 version.1 >>= λ penalty. said_at interval_of 3 penalty.1 >>= λ interval. from_head version.0 penalty.0 interval.0.0 interval.0.1 interval.1) c e in
+    let penalty = bind_ok (said_at penalty_of 2 version.0.1) (λ penalty. said_at interval_of 3 penalty.1 >>= λ interval. from_head version.0.0 penalty.0 interval.0.0 interval.0.1 interval.1) c version.2 in
+    let interval = bind_ok (said_at interval_of 3 penalty.0.1) (λ interval. from_head version.0.0 penalty.0.0 interval.0.0 interval.0.1 interval.1) c penalty.2 in
+    by version.0.0 version.0.1 version.1 penalty.0.0 penalty.0.1 penalty.1 interval.0.0.0 interval.0.0.1 interval.0.1 interval.1 interval.2
+  where
+    by : (version : ℕ) (behind_version : List (List ℕ)) → said_at header_of 1 lines ≡ Ok (version, behind_version)
+        → (penalty : ℕ) (behind_penalty : List (List ℕ)) → said_at penalty_of 2 behind_version ≡ Ok (penalty, behind_penalty)
+        → (lower upper : ℕ) (rest : List (List ℕ)) → said_at interval_of 3 behind_penalty ≡ Ok ((lower, upper), rest)
+        → from_head version penalty lower upper rest ≡ Ok c → IsReadAs lines c
+    by version behind_version said_v penalty behind_penalty said_p lower upper rest said_i e =
+        let v = said_is header_of 1 lines version behind_version said_v in
+        let p = said_is penalty_of 2 behind_version penalty behind_penalty said_p in
+        let i = said_is interval_of 3 behind_penalty (lower, upper) rest said_i in
+        let header = header_is v.0 version v.2 in
+        let pay = penalty_is p.0 penalty p.2 in
+        let ends = interval_is i.0 lower upper i.2 in
+        let range : InRange penalty lower upper = record { penalty_in = (pay.1, pay.2); lower_in = ends.1; upper_in = ends.2 } in
+        let spelled : lines ≡ head version penalty lower upper rest =
+        v.1 ∙ ap (λ (l : List ℕ). l ∷ behind_version) header.0 ∙ ap (λ (x : List (List ℕ)). version_line version ∷ x) (
+        p.1 ∙ ap (λ (l : List ℕ). l ∷ behind_penalty) pay.0 ∙ ap (λ (x : List (List ℕ)). penalty_line penalty ∷ x) (
+        i.1 ∙ ap (λ (l : List ℕ). l ∷ rest) ends.0
+        )
+        ) in
+        subst (λ (x : List (List ℕ)). IsReadAs x c) (sym spelled) (head_is version penalty lower upper rest c header.1 range e)
 
-pub rise-cons : (before : Option (List (List ℕ))) (atoms : List (List ℕ)) (rows : List (List (List ℕ))) → rise_behind before (atoms ∷ rows) ≡ (follows before atoms && rise_behind (Some atoms) rows)
-rise-cons None atoms rows = refl
-rise-cons (Some before) atoms rows = refl
+-- ---- what is read again
 
--- these rows are in form and in order, behind a row with these atoms
-pub record Stand (before : Option (List (List ℕ))) (rows : List Row) : Type 0 where
-  pub formed : AllByRecursion IsRow rows
-  pub atoms_rise : AllByRecursion (λ r. IsTrue (rises compare_texts r.atoms)) rows
-  pub rows_rise : rise_behind before (map (λ r. r.atoms) rows) ≡ true
+head_again : (version penalty lower upper : ℕ) (first : List ℕ) (more : List (List ℕ)) → (version ≡ 1) ⊎ (version ≡ 2) → InRange penalty lower upper → read_lines (head version penalty lower upper (first ∷ more)) ≡ from_head version penalty lower upper (first ∷ more)
+unfolding read_lines
+head_again version penalty lower upper first more known range =
+    rw (
+      said_again header_of 1 (version_line version) (penalty_line penalty ∷ interval_line lower upper ∷ first ∷ more) version (record { first = penalty_line penalty; others = interval_line lower upper ∷ first ∷ more; is = refl }) (header_again version known),
+      said_again penalty_of 2 (penalty_line penalty) (interval_line lower upper ∷ first ∷ more) penalty (record { first = interval_line lower upper; others = first ∷ more; is = refl }) (penalty_again penalty range.penalty_in.0 range.penalty_in.1),
+      said_again interval_of 3 (interval_line lower upper) (first ∷ more) (lower, upper) (record { first = first; others = more; is = refl }) (interval_again lower upper range.lower_in range.upper_in),
+    ) refl
 
-Stand-none : (before : Option (List (List ℕ))) → Stand before []
-Stand-none None = record { formed = tt; atoms_rise = tt; rows_rise = refl }
-Stand-none (Some before) = record { formed = tt; atoms_rise = tt; rows_rise = refl }
+certificate_range : (c : Content) → IsCertificate c → InRange c.penalty c.lower c.upper
+certificate_range c is = record { penalty_in = is.penalty; lower_in = is.lower; upper_in = is.upper }
 
-Stand-cons : (before : Option (List (List ℕ))) (r : Row) (rows : List Row) → IsRow r → rises compare_texts r.atoms ≡ true → follows before r.atoms ≡ true → Stand (Some r.atoms) rows → Stand before (r ∷ rows)
-Stand-cons before r rows formed rise behind others = record {
-  formed = (formed, others.formed);
-  atoms_rise = (rise, others.atoms_rise);
-  rows_rise = rise-cons before r.atoms (map (λ s. s.atoms) rows) ∙ rw (behind, others.rows_rise) refl;
+numbered_are : (c : Content) → c.version ≡ 2 → IsCertificate c → AreNumbered c.atoms c.acts c.rows
+numbered_are c version is = record {
+  atoms_formed = is.atoms;
+  acts_formed = is.acts;
+  rows_formed = is.rows;
+  atoms_rise = is.atoms_rise;
+  acts_rise = is.acts_rise;
+  numbers_rise = is.numbers_rise;
+  rows_rise = is.rows_rise;
+  few = (is.few_atoms version, is.few_acts version, is.count);
+  used = uses_again (length c.atoms) (length c.acts) c.rows is.atoms_used is.acts_used;
 }
 
-row_stands : (before : Option (List (List ℕ))) (k : ℕ) (line : List ℕ) (r : Row) → row_at before k line ≡ Ok r → (line ≡ row_line r) × IsRow r × (rises compare_texts r.atoms ≡ true) × (follows before r.atoms ≡ true)
-unfolding row_at
-row_stands before k line r e =
-    let no_end = test_fails (bytes_eq line (codes "end")) (Count k) (or_syntax k (row_of line) >>= λ s. cond (rises compare_texts s.atoms && follows before s.atoms) (Ok s) (Err (Order k))) r e in
-    let found = bind_ok (or_syntax k (row_of line)) (λ s. cond (rises compare_texts s.atoms && follows before s.atoms) (Ok s) (Err (Order k))) r no_end.1 in
-    let ordered = test_passes (rises compare_texts found.0.atoms && follows before found.0.atoms) found.0 (Order k) r found.2 in
-    let same : found.0 ≡ r = ordered.1 in
-    let is : row_of line ≡ Some r = said k (row_of line) found.0 found.1 ∙ ap (λ (s : Row). Some s) same in
-    let spelled = row_is line r is in
-    let both = and_parts (rises compare_texts found.0.atoms) (follows before found.0.atoms) ordered.0 in
-    (spelled.0, spelled.1, ap (λ (s : Row). rises compare_texts s.atoms) (sym same) ∙ both.0, ap (λ (s : Row). follows before s.atoms) (sym same) ∙ both.1)
+version_is : (c : Content) (v : ℕ) → c.version ≡ v → content_of v c.penalty c.lower c.upper c.atoms c.acts c.rows ≡ c
+version_is c v is = ap (λ (w : ℕ). content_of w c.penalty c.lower c.upper c.atoms c.acts c.rows) (sym is)
 
-pub rows_are : (n : ℕ) (before : Option (List (List ℕ))) (k : ℕ) (lines : List (List ℕ)) (rows : List Row) (rest : List (List ℕ)) → rows_at n before k lines ≡ Ok (rows, rest)
-    → (lines ≡ map row_line rows ++ rest) × (length rows ≡ n) × Stand before rows
-unfolding rows_at
-rows_are zero before k lines rows rest e =
-    let same = ok_is ([], lines) (rows, rest) e in
-    subst (λ (p : List Row × List (List ℕ)). (lines ≡ map row_line p.0 ++ p.1) × (length p.0 ≡ 0) × Stand before p.0) same (refl, refl, Stand-none before)
-rows_are (suc n) before k lines rows rest e =
-    let line = bind_ok (line_at k lines) (λ l. row_at before k l.0 >>= λ r. rows_at n (Some r.atoms) (k + 1) l.1 >>= λ others. Ok (r ∷ others.0, others.1)) (rows, rest) e in
-    let row = bind_ok (row_at before k line.0.0) (λ r. rows_at n (Some r.atoms) (k + 1) line.0.1 >>= λ others. Ok (r ∷ others.0, others.1)) (rows, rest) line.2 in
-    let others = bind_ok (rows_at n (Some row.0.atoms) (k + 1) line.0.1) (λ o. Ok (row.0 ∷ o.0, o.1)) (rows, rest) row.2 in
-    let same = ok_is (row.0 ∷ others.0.0, others.0.1) (rows, rest) others.2 in
-    let one = row_stands before k line.0.0 row.0 row.1 in
-    let more = rows_are n (Some row.0.atoms) (k + 1) line.0.1 others.0.0 others.0.1 others.1 in
-    let whole : lines ≡ row_line row.0 ∷ (map row_line others.0.0 ++ others.0.1) =
-    line_is k lines line.0.0 line.0.1 line.1 ∙ ap (λ (l : List ℕ). l ∷ line.0.1) one.0 ∙ ap (λ (r : List (List ℕ)). row_line row.0 ∷ r) more.0 in
-    subst (λ (p : List Row × List (List ℕ)). (lines ≡ map row_line p.0 ++ p.1) × (length p.0 ≡ suc n) × Stand before p.0) same (
-      whole,
-      ap suc more.1,
-      Stand-cons before row.0 others.0.0 one.1 one.2 one.3 more.2,
-    )
-
--- ---- the end
-
-nothing_is : (k : ℕ) (rest : List (List ℕ)) (u : Unit {0}) → nothing_at k rest ≡ Ok u → rest ≡ [] ∷ []
-nothing_is k [] u e = absurd cc
-nothing_is k (last ∷ []) u e =
-    let empty = test_passes (eqb (length last) 0) tt (Syntax k) u e in
-    ap (λ (text : List ℕ). text ∷ []) (nil_from_length last (eqb-true (length last) 0 empty.0))
-nothing_is k (line ∷ next ∷ more) u e = absurd cc
-
-end_is : (k : ℕ) (lines : List (List ℕ)) (u : Unit {0}) → end_at k lines ≡ Ok u → lines ≡ codes "end" ∷ [] ∷ []
-unfolding end_at
-end_is k lines u e =
-    let line = bind_ok (line_at k lines) (λ l. cond (bytes_eq l.0 (codes "end")) (nothing_at (k + 1) l.1) (or_syntax k (row_of l.0) >>= λ r. Err (Count k))) u e in
-    line_is k lines line.0.0 line.0.1 line.1 ∙ ended line.0.0 line.0.1 line.2
+pub read_again : (c : Content) → IsCertificate c → read_lines (lines_of c ++ [] ∷ []) ≡ Ok c
+read_again c is = by is.version
   where
-    counted : (o : Option Row) → (or_syntax k o >>= λ r. Err (Count k)) ≡ done u → ⊥
-    counted None e = absurd cc
-    counted (Some r) e = absurd cc
+    by : (c.version ≡ 1) ⊎ (c.version ≡ 2) → read_lines (lines_of c ++ [] ∷ []) ≡ Ok c
+    by (inl one) =
+        let rows : List NamedRow = named_rows c in
+        let count : length rows ≤ MOST_COUNT = omega (arith, is.count, length-map c.rows (named_row c.atoms c.acts)) in
+        subst (λ (d : Content). read_lines (lines_of d ++ [] ∷ []) ≡ Ok d) (numbered_again c one is) (
+        ap read_lines (named_lines_are c.penalty c.lower c.upper rows)
+        ∙ head_again 1 c.penalty c.lower c.upper (states_line (length rows)) (map named_row_line rows ++ codes "end" ∷ [] ∷ []) (inl refl) (certificate_range c is)
+        ∙ read_named_again c.penalty c.lower c.upper rows count (named_are c is)
+        )
+    by (inr two) =
+        subst (λ (d : Content). read_lines (lines_of d ++ [] ∷ []) ≡ Ok d) (version_is c 2 two) (
+        ap read_lines (numbered_lines_are c.penalty c.lower c.upper c.atoms c.acts c.rows)
+        ∙ head_again 2 c.penalty c.lower c.upper (atoms_line (length c.atoms)) _ (inr refl) (certificate_range c is)
+        ∙ read_numbered_again c.penalty c.lower c.upper c.atoms c.acts c.rows (numbered_are c two is)
+        )
 
-    by : (line : List ℕ) (rest : List (List ℕ)) (test : Bool) → bytes_eq line (codes "end") ≡ test → cond test (nothing_at (k + 1) rest) (or_syntax k (row_of line) >>= λ r. Err (Count k)) ≡ done u → line ∷ rest ≡ codes "end" ∷ [] ∷ []
-    by line rest true is e = ap (λ (l : List ℕ). l ∷ rest) (same_text line (codes "end") is) ∙ ap (λ (r : List (List ℕ)). codes "end" ∷ r) (nothing_is (k + 1) rest u e)
-    by line rest false is e = absurd (counted (row_of line) e)
+-- ---- no line feed stands in a line
 
-    ended : (line : List ℕ) (rest : List (List ℕ)) → cond (bytes_eq line (codes "end")) (nothing_at (k + 1) rest) (or_syntax k (row_of line) >>= λ r. Err (Count k)) ≡ done u → line ∷ rest ≡ codes "end" ∷ [] ∷ []
-    ended line rest e = by line rest (bytes_eq line (codes "end")) refl e
+abbrev AllLack : List (List ℕ) → Type 0
+AllLack lines = AllByRecursion (Lacks 10) lines
 
-pub end_again : (k : ℕ) → end_at k (codes "end" ∷ [] ∷ []) ≡ Ok tt
-unfolding end_at
-end_again k = refl
+all_append : (a b : List (List ℕ)) → AllLack a → AllLack b → AllLack (a ++ b)
+all_append [] b p q = q
+all_append (x ∷ a) b p q = (p.0, all_append a b p.1 q)
+
+named_rows_lack : (rows : List NamedRow) → AllByRecursion IsNamedRow rows → AllLack (map named_row_line rows)
+named_rows_lack [] are = tt
+named_rows_lack (r ∷ rows) are = (named_row_lacks_feed r are.0, named_rows_lack rows are.1)
+
+rows_lack : (atoms acts : ℕ) (rows : List Row) → atoms ≤ MOST_COUNT → acts ≤ MOST_COUNT → AllByRecursion (IsRow atoms acts) rows → AllLack (map row_line rows)
+rows_lack atoms acts [] few_a few_j are = tt
+rows_lack atoms acts (r ∷ rows) few_a few_j are = (row_lacks_feed atoms acts r few_a few_j are.0, rows_lack atoms acts rows few_a few_j are.1)
+
+entries_lack : (table : List (List ℕ)) → AllByRecursion IsNameList table → AllLack table
+entries_lack [] are = tt
+entries_lack (x ∷ table) are = (list_lacks_feed x are.0, entries_lack table are.1)
+
+version_lacks : (v : ℕ) → (v ≡ 1) ⊎ (v ≡ 2) → Lacks 10 (version_line v)
+version_lacks v (inl is) = rw is refl
+version_lacks v (inr is) = rw is refl
+
+count_lacks : (word : List ℕ) (n : ℕ) → Lacks 10 word → n ≤ MOST_COUNT → Lacks 10 (word ++ decimal n)
+count_lacks word n lacks few = Lacks-append 10 word (decimal n) lacks (decimal_lacks 10 n (omega arith) (omega (arith, few)))
+
+tail_lack : (c : Content) → IsCertificate c → AllLack (cond (eqb c.version 1) (named_lines c) (numbered_lines c))
+tail_lack c is = by is.version
+  where
+    by : (c.version ≡ 1) ⊎ (c.version ≡ 2) → AllLack (cond (eqb c.version 1) (named_lines c) (numbered_lines c))
+    by (inl one) = rw one (
+      count_lacks (codes "states ") (length c.rows) refl is.count,
+      all_append (map named_row_line (named_rows c)) (codes "end" ∷ []) (named_rows_lack (named_rows c) (named_are c is).formed) (refl, tt),
+    )
+    by (inr two) =
+        let last : List (List ℕ) = map row_line c.rows ++ codes "end" ∷ [] in
+        let behind : List (List ℕ) = c.acts ++ (states_line (length c.rows) ∷ last) in
+        rw two (
+          count_lacks (codes "atoms ") (length c.atoms) refl (is.few_atoms two),
+          all_append c.atoms (acts_line (length c.acts) ∷ behind) (entries_lack c.atoms is.atoms) (
+            count_lacks (codes "acts ") (length c.acts) refl (is.few_acts two),
+            all_append c.acts (states_line (length c.rows) ∷ last) (entries_lack c.acts is.acts) (
+              count_lacks (codes "states ") (length c.rows) refl is.count,
+              all_append (map row_line c.rows) (codes "end" ∷ []) (rows_lack (length c.atoms) (length c.acts) c.rows (is.few_atoms two) (is.few_acts two) is.rows) (refl, tt),
+            ),
+          ),
+        )
+
+lines_lack : (c : Content) → IsCertificate c → AllLack (lines_of c)
+lines_lack c is = (
+  version_lacks c.version is.version,
+  (
+    decimal_lacks 10 c.penalty (omega arith) is.penalty.1,
+    (
+      Lacks-append 10 (decimal c.lower) (32 ∷ decimal c.upper) (decimal_lacks 10 c.lower (omega arith) is.lower) (decimal_lacks 10 c.upper (omega arith) is.upper),
+      tail_lack c is,
+    ),
+  ),
+)
 
 -- ---- the whole
 
-abbrev With : Type 0 → Type 0
-With A = A × List (List ℕ)
+text_reads : (c : Content) → IsCertificate c → read_lines (parts 10 (text_of c)) ≡ Ok c
+text_reads c is = ap read_lines (parts_ended (lines_of c) (lines_lack c is)) ∙ read_again c is
 
-abbrev content : ℕ → ℕ × ℕ → List Row → Content
-content penalty interval rows = record { version = 1; penalty = penalty; lower = interval.0; upper = interval.1; rows = rows }
+bytes_are : (bytes : List ℕ) (c : Content) → read_lines (parts 10 bytes) ≡ Ok c → IsTextOf bytes c
+bytes_are bytes c e =
+    let read = read_is (parts 10 bytes) c e in
+    (read.0, sym (join_with_byte-slice_split 10 bytes) ∙ ap (join_with_byte 10) read.1 ∙ join_ended (lines_of c))
 
-abbrev after_rows : With ℕ → With (ℕ × ℕ) → With ℕ → With (List Row) → Result Content CertRefusal
-after_rows penalty interval count rows = end_at (5 + count.0) rows.1 >>= λ ended. Ok (content penalty.0 interval.0 rows.0)
+-- texts of each version begin so
+begins_first : (c : Content) → c.version ≡ 1 → is_some (behind (ended (codes "cert 1")) (text_of c)) ≡ true
+begins_first c one = rw one refl
 
-abbrev after_count : With ℕ → With (ℕ × ℕ) → With ℕ → Result Content CertRefusal
-after_count penalty interval count = rows_at count.0 None 5 count.1 >>= after_rows penalty interval count
+begins_second : (c : Content) → c.version ≡ 2 → is_some (behind (ended (codes "cert 1")) (text_of c)) ≡ false
+begins_second c two = rw two refl
 
-abbrev after_interval : With ℕ → With (ℕ × ℕ) → Result Content CertRefusal
-after_interval penalty interval = said_at count_of 4 interval.1 >>= after_count penalty interval
+fits : (bytes : List ℕ) (c : Content) → length bytes ≤ most_bytes c.version → IsTextOf bytes c → is_too_long bytes ≡ false
+fits bytes c short is = by is.0.version
+  where
+    by : (c.version ≡ 1) ⊎ (c.version ≡ 2) → is_too_long bytes ≡ false
+    by (inl one) =
+        let low : length bytes ≤ MOST_BYTES_1 = rw one at short in
+        rw (le-ltb MOST_BYTES (length bytes) (omega (arith, low)), le-ltb MOST_BYTES_1 (length bytes) low) refl
+    by (inr two) =
+        let low : length bytes ≤ MOST_BYTES = rw two at short in
+        let other : is_some (behind (ended (codes "cert 1")) bytes) ≡ false = ap (λ (b : List ℕ). is_some (behind (ended (codes "cert 1")) b)) is.1 ∙ begins_second c two in
+        rw (le-ltb MOST_BYTES (length bytes) low, other) (and_right (ltb MOST_BYTES_1 (length bytes)) false refl)
 
-abbrev after_penalty : With ℕ → Result Content CertRefusal
-after_penalty penalty = said_at interval_of 3 penalty.1 >>= after_interval penalty
+is_short : (bytes : List ℕ) (c : Content) → is_too_long bytes ≡ false → IsTextOf bytes c → length bytes ≤ most_bytes c.version
+is_short bytes c short is = by is.0.version
+  where
+    or_left : (a b : Bool) → (a || b) ≡ false → a ≡ false
+    or_left true b e = absurd cc
+    or_left false b e = refl
 
-abbrev after_header : With (Unit {0}) → Result Content CertRefusal
-after_header header = said_at penalty_of 2 header.1 >>= after_penalty
+    or_right : (a b : Bool) → (a || b) ≡ false → b ≡ false
+    or_right true b e = absurd cc
+    or_right false b e = e
 
-pub read_is : (lines : List (List ℕ)) (c : Content) → read_lines lines ≡ Ok c → IsCertificate c × (lines ≡ lines_of c ++ [] ∷ [])
-unfolding read_lines
-read_is lines c e =
-    let header = bind_ok (said_at header_of 1 lines) after_header c e in
-    let penalty = bind_ok (said_at penalty_of 2 header.0.1) after_penalty c header.2 in
-    let interval = bind_ok (said_at interval_of 3 penalty.0.1) (after_interval penalty.0) c penalty.2 in
-    let count = bind_ok (said_at count_of 4 interval.0.1) (after_count penalty.0 interval.0) c interval.2 in
-    let rows = bind_ok (rows_at count.0.0 None 5 count.0.1) (after_rows penalty.0 interval.0 count.0) c count.2 in
-    let ended = bind_ok (end_at (5 + count.0.0) rows.0.1) (λ u. Ok (content penalty.0.0 interval.0.0 rows.0.0)) c rows.2 in
-    let same : content penalty.0.0 interval.0.0 rows.0.0 ≡ c = ok_is (content penalty.0.0 interval.0.0 rows.0.0) c ended.2 in
-    let line1 = said_is header_of 1 lines header.0.0 header.0.1 header.1 in
-    let line2 = said_is penalty_of 2 header.0.1 penalty.0.0 penalty.0.1 penalty.1 in
-    let line3 = said_is interval_of 3 penalty.0.1 interval.0.0 interval.0.1 interval.1 in
-    let line4 = said_is count_of 4 interval.0.1 count.0.0 count.0.1 count.1 in
-    let p = penalty_is line2.0 penalty.0.0 line2.2 in
-    let i = interval_is line3.0 interval.0.0.0 interval.0.0.1 line3.2 in
-    let n = count_is line4.0 count.0.0 line4.2 in
-    let rs = rows_are count.0.0 None 5 count.0.1 rows.0.0 rows.0.1 rows.1 in
-    let end = end_is (5 + count.0.0) rows.0.1 ended.0 ended.1 in
-    let tail : count.0.1 ≡ (map row_line rows.0.0 ++ codes "end" ∷ []) ++ [] ∷ [] =
-    rs.0 ∙ ap (λ (r : List (List ℕ)). map row_line rows.0.0 ++ r) end ∙ sym (append_assoc (map row_line rows.0.0) (codes "end" ∷ []) ([] ∷ [])) in
-    let from4 : interval.0.1 ≡ states_line (length rows.0.0) ∷ count.0.1 = line4.1 ∙ ap (λ (l : List ℕ). l ∷ count.0.1) (n.0 ∙ ap states_line (sym rs.1)) in
-    let from3 : penalty.0.1 ≡ interval_line interval.0.0.0 interval.0.0.1 ∷ interval.0.1 = line3.1 ∙ ap (λ (l : List ℕ). l ∷ interval.0.1) i.0 in
-    let from2 : header.0.1 ≡ penalty_line penalty.0.0 ∷ penalty.0.1 = line2.1 ∙ ap (λ (l : List ℕ). l ∷ penalty.0.1) p.0 in
-    let from1 : lines ≡ codes "cert 1" ∷ header.0.1 = line1.1 ∙ ap (λ (l : List ℕ). l ∷ header.0.1) (header_is line1.0 header.0.0 line1.2) in
-    let whole : lines ≡ lines_of (content penalty.0.0 interval.0.0 rows.0.0) ++ [] ∷ [] =
-    from1 ∙ ap (λ (r : List (List ℕ)). codes "cert 1" ∷ r) (
-    from2 ∙ ap (λ (r : List (List ℕ)). penalty_line penalty.0.0 ∷ r) (
-    from3 ∙ ap (λ (r : List (List ℕ)). interval_line interval.0.0.0 interval.0.0.1 ∷ r) (from4 ∙ ap (λ (r : List (List ℕ)). states_line (length rows.0.0) ∷ r) tail)
-    )
-    ) in
-    subst (λ (d : Content). IsCertificate d × (lines ≡ lines_of d ++ [] ∷ [])) same (
-      record {
-        version = refl;
-        penalty = (p.1, p.2);
-        lower = i.1;
-        upper = i.2;
-        count = omega arith;
-        rows = rs.2.formed;
-        atoms_rise = rs.2.atoms_rise;
-        rows_rise = rs.2.rows_rise;
-      },
-      whole,
-    )
+    and_left : (a b : Bool) → b ≡ true → (a && b) ≡ false → a ≡ false
+    and_left true b t e = sym t ∙ e
+    and_left false b t e = refl
+
+    by : (c.version ≡ 1) ⊎ (c.version ≡ 2) → length bytes ≤ most_bytes c.version
+    by (inl one) =
+        let first : is_some (behind (ended (codes "cert 1")) bytes) ≡ true = ap (λ (b : List ℕ). is_some (behind (ended (codes "cert 1")) b)) is.1 ∙ begins_first c one in
+        let low = ltb-false MOST_BYTES_1 (length bytes) (and_left (ltb MOST_BYTES_1 (length bytes)) _ first (or_right (ltb MOST_BYTES (length bytes)) _ short)) in
+        rw one low
+    by (inr two) =
+        let low = ltb-false MOST_BYTES (length bytes) (or_left (ltb MOST_BYTES (length bytes)) _ short) in
+        rw two low
+
+pub read_is_text : (bytes : List ℕ) (c : Content) → read_of bytes ≡ Ok c → IsTextOf bytes c × (length bytes ≤ most_bytes c.version)
+unfolding read_of
+read_is_text bytes c e =
+    let parted = test_fails (is_too_long bytes) TooLong (read_lines (parts 10 bytes)) c e in
+    let is = bytes_are bytes c parted.1 in
+    (is, is_short bytes c parted.0 is)
+
+pub text_is_read : (bytes : List ℕ) (c : Content) → length bytes ≤ most_bytes c.version → IsTextOf bytes c → read_of bytes ≡ Ok c
+unfolding read_of
+text_is_read bytes c short is = rw (fits bytes c short is) (ap (λ (b : List ℕ). read_lines (parts 10 b)) is.1 ∙ text_reads c is.0)
+
+pub texts_differ : (bytes : List ℕ) (c d : Content) → IsTextOf bytes c → IsTextOf bytes d → c ≡ d
+texts_differ bytes c d first second =
+    let read_c : read_lines (parts 10 bytes) ≡ Ok c = ap (λ (b : List ℕ). read_lines (parts 10 b)) first.1 ∙ text_reads c first.0 in
+    let read_d : read_lines (parts 10 bytes) ≡ Ok d = ap (λ (b : List ℕ). read_lines (parts 10 b)) second.1 ∙ text_reads d second.0 in
+    ok_is c d (sym read_c ∙ read_d)
+
+pub is_found : (bytes : List ℕ) (result : Result Content CertRefusal) → GivesCertificate (λ found. found) result (read_of bytes) → IfOk result (IsTextOf bytes)
+is_found bytes (Ok c) given = (read_is_text bytes c given).0
+is_found bytes (Err e) given = tt

@@ -1,9 +1,13 @@
 pub mod Answers
 pub mod Content
+pub mod Counted
 pub mod Decoding
 pub mod Examples
 pub mod Laws
 pub mod Names
+pub mod Numbering
 pub mod Reading
 pub mod Refusals
+pub mod Rows
 pub mod Spelling
+pub mod Used

@@ -14,22 +14,26 @@ pub enum CertRefusal {
     /// The line is not of the form of its place, lacks its line feed, or stands behind `end`.
     #[error("Syntax")]
     Syntax { line: u32 },
-    /// The atoms of the row do not rise, or the row is not above the one before it.
+    /// The atoms of the row do not rise, or the line is not above the one before it.
     #[error("Order")]
     Order { line: u32 },
-    /// `end` stands before all rows, or a row stands in its place.
+    /// What stands behind a counted list comes before all its lines, or a line of the list stands in
+    /// its place.
     #[error("Count")]
     Count { line: u32 },
-    /// More than `MOST_BYTES` bytes.
+    /// More than `MOST_BYTES` bytes, or more than `MOST_BYTES_1` of version 1.
     #[error("TooLong")]
     TooLong,
+    /// All lines pass, and no row uses this line of a table; the first such line.
+    #[error("Unused")]
+    Unused { line: u32 },
     /// Want of memory.
     #[error("Memory")]
     Memory,
 }
 
 impl CertRefusal {
-    /// The number of the refusal, from 30 to 33. Want of memory has none.
+    /// The number of the refusal: 30 to 33, or 40. Want of memory has none.
     pub fn number(self) -> Option<u8>
         ensures { result ≡ number_of self }
     {
@@ -38,6 +42,7 @@ impl CertRefusal {
             CertRefusal::Order { .. } => Some(31),
             CertRefusal::Count { .. } => Some(32),
             CertRefusal::TooLong => Some(33),
+            CertRefusal::Unused { .. } => Some(40),
             CertRefusal::Memory => None,
         }
     }
@@ -49,7 +54,8 @@ impl CertRefusal {
         match self {
             CertRefusal::Syntax { line }
             | CertRefusal::Order { line }
-            | CertRefusal::Count { line } => line,
+            | CertRefusal::Count { line }
+            | CertRefusal::Unused { line } => line,
             CertRefusal::TooLong | CertRefusal::Memory => 0,
         }
     }
@@ -74,7 +80,7 @@ impl<T: Drop> From<AllocFailed<T>> for CertRefusal {
 /// Why a certificate was not written.
 #[derive(Clone, Copy, Debug, PartialEq, Eq, Error)]
 pub enum WriteRefusal {
-    /// The text is above `MOST_BYTES` bytes.
+    /// The text is above `MOST_BYTES` bytes, or `MOST_BYTES_1` of version 1.
     #[error("TooLong")]
     TooLong,
     /// Want of memory.

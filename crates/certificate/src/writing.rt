@@ -1,14 +1,18 @@
 //! Writing a certificate line by line.
 
-ghost use Rattle.std.specs.Prelude.{◌≡◌, ◌++◌, ◌∷◌, [], OnOk, decimal, length};
+ghost use Rattle.std.specs.Prelude.{◌≡◌, ◌++◌, OnOk, decimal};
 ghost use Rattle.std.specs.List.{flat_map};
-ghost use Rattle.certificate.specs.Spelling.{spaced, act_text, interval_line, row_line};
-ghost use Rattle.certificate.specs.Content.{text_of, head_lines, ended};
-ghost use Rattle.certificate.specs.Answers.{Writes};
+ghost use Rattle.certificate.specs.Spelling.{interval_line};
+ghost use Rattle.certificate.specs.Content.{text_of, first_lines, named_lines, numbered_lines};
+ghost use Rattle.certificate.specs.Content.{ended, most_bytes};
+ghost use Rattle.certificate.specs.Answers.{Appends, Writes};
 
-use crate::{Act, Certificate, MOST_BYTES, Row, WriteRefusal};
+mod rows;
+
+use crate::writing::rows::{push_named_rows, push_rows};
+use crate::{Certificate, MOST_BYTES, MOST_BYTES_1, Text, WriteRefusal};
 use itoa::Buffer;
-use plain_list::{Bytes, Text};
+use plain_list::Bytes;
 use std::alloc::{AllocError, Global};
 
 /// Appends a number in decimal.
@@ -19,51 +23,11 @@ fn push_decimal(out: &mut Vec<u8>, number: u64) -> Result<(), AllocError>
     out.extend_from_slice(buffer.format(number).as_bytes())
 }
 
-/// Appends the text of an act.
-fn push_act(out: &mut Vec<u8>, act: &Act) -> Result<(), AllocError>
-    ensures { OnOk result (out.new.items ≡ out.old.items ++ act_text act.now) }
+/// Appends the line of a word, which has its blank, and a number, with its line feed.
+fn push_named(out: &mut Vec<u8>, word: &[u8], number: u64) -> Result<(), AllocError>
+    ensures { OnOk result (out.new.items ≡ out.old.items ++ ended (word.now ++ decimal number)) }
 {
-    match act {
-        Act::GiveUp => out.extend_from_slice(b"give-up"),
-        Act::Goal => out.extend_from_slice(b"goal"),
-        Act::Do(name) => out.extend_from_slice(name.as_slice()),
-    }
-}
-
-/// Appends each atom behind a blank.
-fn push_atoms(out: &mut Vec<u8>, atoms: &[Text]) -> Result<(), AllocError>
-    ensures { OnOk result (out.new.items
-        ≡ out.old.items ++ flat_map (λ atom. 32 ∷ atom) atoms.now) }
-{
-    for atom in atoms {
-        out.push(b' ')?;
-        out.extend_from_slice(atom.as_slice())?;
-    }
-    Ok(())
-}
-
-/// Appends a row's line with its line feed.
-fn push_row(out: &mut Vec<u8>, row: &Row) -> Result<(), AllocError>
-    ensures { OnOk result (out.new.items ≡ out.old.items ++ ended (row_line row.now)) }
-{
-    push_decimal(out, row.lower)?;
-    out.push(b' ')?;
-    push_decimal(out, row.upper)?;
-    out.push(b' ')?;
-    push_act(out, &row.act)?;
-    out.extend_from_slice(b" :")?;
-    push_atoms(out, row.atoms.as_slice())?;
-    out.push(b'\n')?;
-    Ok(())
-}
-
-/// Appends the line of a word and a number, with its line feed.
-fn push_named(out: &mut Vec<u8>, name: &[u8], number: u64) -> Result<(), AllocError>
-    ensures { OnOk result (out.new.items
-        ≡ out.old.items ++ ended (spaced name.now (decimal number))) }
-{
-    out.extend_from_slice(name)?;
-    out.push(b' ')?;
+    out.extend_from_slice(word)?;
     push_decimal(out, number)?;
     out.push(b'\n')?;
     Ok(())
@@ -81,35 +45,81 @@ fn push_interval(out: &mut Vec<u8>, lower: u64, upper: u64) -> Result<(), AllocE
     Ok(())
 }
 
-/// Appends the four lines before the rows.
-fn push_head(out: &mut Vec<u8>, certificate: &Certificate) -> Result<(), AllocError>
+/// Appends the three lines that both versions begin with.
+fn push_first_lines(out: &mut Vec<u8>, certificate: &Certificate) -> Result<(), AllocError>
     ensures { OnOk result (out.new.items
-        ≡ out.old.items ++ flat_map ended (head_lines certificate.now)) }
+        ≡ out.old.items ++ flat_map ended (first_lines certificate.now)) }
 {
-    out.extend_from_slice(b"cert 1\n")?;
-    push_named(out, b"penalty", certificate.penalty())?;
+    out.extend_from_slice(if certificate.version() == 1 {
+        b"cert 1\n"
+    } else {
+        b"cert 2\n"
+    })?;
+    push_named(out, b"penalty ", certificate.penalty())?;
     push_interval(out, certificate.lower(), certificate.upper())?;
-    push_named(out, b"states", certificate.rows().len() as u64)?;
     Ok(())
 }
 
-/// The text of a certificate, refused as `TooLong` if it is above the greatest length.
+/// Appends each entry of a table as a line.
+fn push_entries(out: &mut Vec<u8>, entries: &[Text]) -> Result<(), AllocError>
+    ensures { OnOk result (out.new.items ≡ out.old.items ++ flat_map ended entries.now) }
+{
+    for entry in entries {
+        out.extend_from_slice(entry.as_slice())?;
+        out.push(b'\n')?;
+    }
+    Ok(())
+}
+
+/// Appends the lines of version 1 behind the first three.
+fn push_named_lines(out: &mut Vec<u8>, certificate: &Certificate) -> Result<(), WriteRefusal>
+    ensures { Appends MOST_BYTES_1 (flat_map ended (named_lines certificate.now))
+        out.old.items out.new.items result }
+{
+    push_named(out, b"states ", certificate.rows().len() as u64)?;
+    push_named_rows(out, certificate)?;
+    out.extend_from_slice(b"end\n")?;
+    Ok(())
+}
+
+/// Appends the lines of version 2 behind the first three.
+fn push_numbered_lines(out: &mut Vec<u8>, certificate: &Certificate) -> Result<(), WriteRefusal>
+    ensures { Appends MOST_BYTES (flat_map ended (numbered_lines certificate.now))
+        out.old.items out.new.items result }
+{
+    push_named(out, b"atoms ", certificate.atoms().len() as u64)?;
+    push_entries(out, certificate.atoms())?;
+    push_named(out, b"acts ", certificate.acts().len() as u64)?;
+    push_entries(out, certificate.acts())?;
+    push_named(out, b"states ", certificate.rows().len() as u64)?;
+    push_rows(out, certificate.rows())?;
+    out.extend_from_slice(b"end\n")?;
+    Ok(())
+}
+
+/// The bytes, if they are no more than so many.
+fn within(most: usize, bytes: Vec<u8>) -> Result<Bytes, WriteRefusal>
+    ensures { Writes most bytes.items result }
+{
+    if bytes.len() > most {
+        return Err(WriteRefusal::TooLong);
+    }
+    Ok(Bytes::from_vec(bytes))
+}
+
+/// The text of a certificate in its version, refused as `TooLong` if it is above the version's
+/// greatest length.
 ///
 /// Either answer yields to `Memory`.
 pub fn write(alloc: Global, certificate: &Certificate) -> Result<Bytes, WriteRefusal>
-    ensures exact { Writes (text_of certificate.now) result }
+    ensures exact { let c = certificate.now in Writes (most_bytes c.version) (text_of c) result }
 {
     let mut out = Vec::new(alloc);
-    push_head(&mut out, certificate)?;
-    for row in certificate.rows() {
-        push_row(&mut out, row)?;
-        if out.len() > MOST_BYTES {
-            return Err(WriteRefusal::TooLong);
-        }
+    push_first_lines(&mut out, certificate)?;
+    if certificate.version() == 1 {
+        push_named_lines(&mut out, certificate)?;
+        return within(MOST_BYTES_1, out);
     }
-    out.extend_from_slice(b"end\n")?;
-    if out.len() > MOST_BYTES {
-        return Err(WriteRefusal::TooLong);
-    }
-    Ok(Bytes::from_vec(out))
+    push_numbered_lines(&mut out, certificate)?;
+    within(MOST_BYTES, out)
 }

@@ -9,9 +9,9 @@ use Rattle.decision_process.specs.Balanced.{IsBalancedAt, IsBalanced}
 use Rattle.decision_process.specs.Readings as readings
 use Rattle.decision_process.specs.Readings.{RowAct, GivesUp, AtGoal, Takes, HasDistinctStates, row_at, low, high, act, IsMarked}
 use Rattle.decision_process.proofs.Readings.{row_is_read, rows_balance}
-use Rattle.certificate.specs.declared.model.Act.{Act}
-use Rattle.certificate.specs.declared.model.Act.TheVariants.{GiveUp, Goal, Do}
-use Rattle.certificate.specs.declared.model.Row.{Row}
+use Rattle.certificate.specs.declared.named.NamedAct.{NamedAct as Act}
+use Rattle.certificate.specs.declared.named.NamedAct.TheVariants.{GiveUp, Goal, Do}
+use Rattle.certificate.specs.declared.named.NamedRow.{NamedRow as Row}
 use Rattle.plain_list.specs.Texts.{list_text}
 use Rattle.ppddl_model.specs.declared.tree.Action.{Action}
 use Rattle.ppddl_model.specs.declared.tree.Param.{Param}

@@ -1,11 +1,10 @@
 -- Why a request ends: from what was read to what the shelf may hold.
-use Rattle.std.proofs.Common.{◌≡◌, ℕ, ◌+◌, ◌<◌, ◌≤◌, ◌⊎◌, inl, inr, List, length, replicate, refl, sym, ap, ◌∙◌, subst, arith, Option, Some, None, Result, Ok, Err}
+use Rattle.std.proofs.Common.{◌≡◌, ℕ, ◌+◌, ◌<◌, ◌⊎◌, inl, inr, List, length, replicate, refl, sym, ap, ◌∙◌, subst, arith, Option, Some, None, Result, Ok, Err}
 use Rattle.std.proofs.Math.ListN.{length-replicate}
 use Rattle.shelf_io.specs.Causes.{one_more}
 use Rattle.shelf_io.specs.Shelf.{Told, Untold, Missing, Holds, MayHold}
 use Rattle.shelf_io.specs.declared.shelf_fault.ShelfFault.{ShelfFault}
 use Rattle.shelf_io.specs.declared.shelf_fault.ShelfFault.TheVariants as fault
-use Rattle.certificate.specs.declared.limits.TheConstants.{MOST_BYTES}
 use Rattle.certificate.specs.Content.{Content}
 use Rattle.certificate.specs.Laws.{TextsAreRead}
 use Rattle.certificate.specs.Reading.{read_of}
@@ -54,15 +53,15 @@ not_both bytes c e gives read = cc (gives, read)
 
 -- bytes of which this is decoded are read so
 pub decoded_read : TextsAreRead → (bytes : List ℕ) (c : Content) → IsDecoded bytes c → read_of bytes ≡ Ok c
-decoded_read law bytes c is = (law bytes c is.within).1 is.text
+decoded_read law bytes c is = (law bytes c).1 (is.text, is.within)
 
 -- the certificate that was read
-pub certificate_held : TextsAreRead → (told : Told) (bytes : List ℕ) (c : Content) → MayHold told bytes → length bytes ≤ MOST_BYTES → read_of bytes ≡ Ok c
+pub certificate_held : TextsAreRead → (told : Told) (bytes : List ℕ) (c : Content) → MayHold told bytes → read_of bytes ≡ Ok c
     → MayHoldCertificate told c
-certificate_held law told bytes c holds within read = record {
+certificate_held law told bytes c holds read = record {
   f = bytes;
   held = holds;
-  decoded = record { text = (law bytes c within).0 read; within = within };
+  decoded = record { text = ((law bytes c).0 read).0; within = ((law bytes c).0 read).1 };
   only = λ other is. cc (read, decoded_read law bytes other is);
   read = read;
 }
@@ -90,6 +89,7 @@ module _ {S : Type 0} (held : S → List ℕ → Told) (reads : S → ℕ) (old 
   refused_with (refusal.Order line) gives = rejected_with (refusal.Order line) 31 line gives refl refl
   refused_with (refusal.Count line) gives = rejected_with (refusal.Count line) 32 line gives refl refl
   refused_with refusal.TooLong gives = rejected_with refusal.TooLong 33 0 gives refl refl
+  refused_with (refusal.Unused line) gives = rejected_with (refusal.Unused line) 40 line gives refl refl
 
 -- ---- the parts of a request
 

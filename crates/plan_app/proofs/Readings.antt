@@ -7,7 +7,7 @@ use Rattle.std.proofs.lemmas.Bool.Decides.{same_from_decides}
 use Rattle.decision_process.specs.Process.{expected}
 use Rattle.decision_process.specs.Readings as readings
 use Rattle.decision_process.specs.Readings.{row_at, low, high}
-use Rattle.certificate.specs.declared.model.Row.{Row}
+use Rattle.certificate.specs.declared.named.NamedRow.{NamedRow as Row}
 use Rattle.ppddl_model.specs.declared.tree.Action.{Action}
 use Rattle.ppddl_model.specs.declared.tree.Atom.{Atom}
 use Rattle.ppddl_model.specs.declared.tree.Condition.TheVariants as condition

@@ -10,7 +10,7 @@ use Rattle.std.proofs.lemmas.List.Folds.{find-append, list_all-append}
 use Rattle.std.proofs.lemmas.Bool.{cases_eq, ne_eqb, eqb-true}
 use Rattle.std.proofs.lemmas.Bool.Decides.{nat_tests}
 use Rattle.std.proofs.lemmas.List.Elements.{Contains-append_right, Contains-push_cases}
-use Rattle.certificate.specs.declared.model.Row.{Row}
+use Rattle.certificate.specs.declared.named.NamedRow.{NamedRow as Row}
 use Rattle.ppddl_model.specs.State.{Name}
 use Rattle.plain_list.proofs.Members.{Contains-first, Contains-later, Contains-cons_cases, Contains-nil}
 use Rattle.plan_app.specs.declared.checker.row_table.Bounds.{Bounds}

@@ -10,9 +10,9 @@ use Rattle.decision_process.specs.Process.{at_starts}
 use Rattle.decision_process.specs.Readings as readings
 use Rattle.decision_process.specs.Readings.{HasDistinctStates, IsMarked, low, high}
 use Rattle.decision_process.specs.Backup.{floor, ceiling}
-use Rattle.certificate.specs.declared.model.Row.{Row}
+use Rattle.certificate.specs.declared.named.NamedRow.{NamedRow as Row}
 use Rattle.plain_list.specs.Texts.{list_text}
-use Rattle.certificate.specs.Content.{Content}
+use Rattle.certificate.specs.Content.{Content, named_rows}
 use Rattle.ppddl_model.specs.declared.tree.Task.{Task}
 use Rattle.ppddl_model.specs.State.{Name, GroundAtom, State, no_atoms, with_atoms, same_state}
 use Rattle.ppddl_model.specs.Steps.{Instance, process, starts, start_den}
@@ -158,60 +158,60 @@ module _ (task : Task) (thin : IsThinTask task) (packed : PackedTask) (packs : P
       (distinct_states rows distinct.1)
 
   module _ (penalty : ℕ) (c : Content) where
-    pub are_rows : IsBalancedFor task (charges penalty) c → AreRows packed.names c.rows
+    pub are_rows : IsBalancedFor task (charges penalty) c → AreRows packed.names (named_rows c)
     are_rows balanced = record {
-      known = all_pass (λ (r : Row). list_all (is_known packed.names) r.atoms) c.rows
+      known = all_pass (λ (r : Row). list_all (is_known packed.names) r.atoms) (named_rows c)
           (λ r inside. all_pass (is_known packed.names) r.atoms (λ text there. known_text text (balanced.atoms_change r text inside there)));
-      distinct = distinct_bits c.rows balanced.balanced.distinct;
+      distinct = distinct_bits (named_rows c) balanced.balanced.distinct;
     }
 
-    module _ (table : RowTable) (filled : IsTable packed.names c.rows table) where
-      first_low : at_starts (low same_state (map (row_of task) c.rows)) (starts task) ≡ lower_at table packed.start
+    module _ (table : RowTable) (filled : IsTable packed.names (named_rows c) table) where
+      first_low : at_starts (low same_state (map (row_of task) (named_rows c))) (starts task) ≡ lower_at table packed.start
       first_low =
-          at_starts-thin task thin (low same_state (map (row_of task) c.rows))
-          ∙ low-packed task thin packed packs c.rows table filled (with_atoms no_atoms (facts task)) (Agrees-first task)
+          at_starts-thin task thin (low same_state (map (row_of task) (named_rows c)))
+          ∙ low-packed task thin packed packs (named_rows c) table filled (with_atoms no_atoms (facts task)) (Agrees-first task)
           ∙ ap (lower_at table) (state_bits-first task packed.names changing ∙ sym packs.start)
 
-      first_high : at_starts (high (process task (charges penalty)) same_state (map (row_of task) c.rows)) (starts task) ≡ upper_at packed table penalty packed.start
+      first_high : at_starts (high (process task (charges penalty)) same_state (map (row_of task) (named_rows c))) (starts task) ≡ upper_at packed table penalty packed.start
       first_high =
-          at_starts-thin task thin (high (process task (charges penalty)) same_state (map (row_of task) c.rows))
-          ∙ high-packed task thin packed packs c.rows table filled penalty (with_atoms no_atoms (facts task)) (Agrees-first task)
+          at_starts-thin task thin (high (process task (charges penalty)) same_state (map (row_of task) (named_rows c)))
+          ∙ high-packed task thin packed packs (named_rows c) table filled penalty (with_atoms no_atoms (facts task)) (Agrees-first task)
           ∙ ap (upper_at packed table penalty) (state_bits-first task packed.names changing ∙ sym packs.start)
 
-      floor_is : floor (at_starts (low same_state (map (row_of task) c.rows)) (starts task)) (start_den task) ≡ lower_at table packed.start
+      floor_is : floor (at_starts (low same_state (map (row_of task) (named_rows c))) (starts task)) (start_den task) ≡ lower_at table packed.start
       floor_is =
           ap (λ n. floor n (start_den task)) first_low ∙ ap (floor (lower_at table packed.start)) (start_den-thin task thin) ∙ div-one (lower_at table packed.start)
 
-      ceiling_is : ceiling (at_starts (high (process task (charges penalty)) same_state (map (row_of task) c.rows)) (starts task)) (start_den task) ≡ upper_at packed table penalty packed.start
+      ceiling_is : ceiling (at_starts (high (process task (charges penalty)) same_state (map (row_of task) (named_rows c))) (starts task)) (start_den task) ≡ upper_at packed table penalty packed.start
       ceiling_is =
           ap (λ n. ceiling n (start_den task)) first_high ∙ ap (ceiling (upper_at packed table penalty packed.start)) (start_den-thin task thin)
           ∙ ceiling_of_one (upper_at packed table penalty packed.start)
 
-      distinct : HasDistinctStates (map (row_of task) c.rows)
-      distinct = distinct_states c.rows filled.are_rows.distinct
+      distinct : HasDistinctStates (map (row_of task) (named_rows c))
+      distinct = distinct_states (named_rows c) filled.are_rows.distinct
 
       pub by_table : IsBalancedFor task (charges penalty) c → IsBalancedBy packed table penalty c
       by_table balanced = (
         balanced.balanced.penalty,
         λ r inside.
-            row_from_balance task thin packed packs penalty c.rows table filled distinct r inside balanced.balanced.balanced
-            (balanced.balanced.marked (row_of task r) (Contains-map (row_of task) c.rows r inside)) (λ name is. balanced.acts_named r name inside is),
+            row_from_balance task thin packed packs penalty (named_rows c) table filled distinct r inside balanced.balanced.balanced
+            (balanced.balanced.marked (row_of task r) (Contains-map (row_of task) (named_rows c) r inside)) (λ name is. balanced.acts_named r name inside is),
         (balanced.balanced.interval.floor_of_low ∙ floor_is, balanced.balanced.interval.ceiling_of_high ∙ ceiling_is),
       )
 
-      from_parts : c.penalty ≡ penalty → AreBalanced packed table penalty c.rows → IsStartInterval packed table penalty c.lower c.upper → IsBalancedFor task (charges penalty) c
+      from_parts : c.penalty ≡ penalty → AreBalanced packed table penalty (named_rows c) → IsStartInterval packed table penalty c.lower c.upper → IsBalancedFor task (charges penalty) c
       from_parts same each interval = record {
         atoms_change = λ r text inside there.
             atom_of_text text (each_passes (is_known packed.names) r.atoms
-            (each_passes (λ (q : Row). list_all (is_known packed.names) q.atoms) c.rows filled.are_rows.known r inside) text there);
-        acts_named = λ r name inside is. act_named task thin packed packs penalty c.rows table filled distinct r inside (each r inside) name is;
+            (each_passes (λ (q : Row). list_all (is_known packed.names) q.atoms) (named_rows c) filled.are_rows.known r inside) text there);
+        acts_named = λ r name inside is. act_named task thin packed packs penalty (named_rows c) table filled distinct r inside (each r inside) name is;
         balanced = record {
           penalty = same;
           distinct = distinct;
           marked = λ row there.
-              let from = Contains-map_cases (row_of task) c.rows row there in
-              subst (IsMarked (process task (charges penalty))) from.2 (is_marked task thin packed packs penalty c.rows table filled distinct from.0 from.1 (each from.0 from.1));
-          balanced = balance_from_rows task thin packed packs penalty c.rows table filled distinct each;
+              let from = Contains-map_cases (row_of task) (named_rows c) row there in
+              subst (IsMarked (process task (charges penalty))) from.2 (is_marked task thin packed packs penalty (named_rows c) table filled distinct from.0 from.1 (each from.0 from.1));
+          balanced = balance_from_rows task thin packed packs penalty (named_rows c) table filled distinct each;
           interval = record { floor_of_low = interval.0 ∙ sym floor_is; ceiling_of_high = interval.1 ∙ sym ceiling_is };
         };
       }

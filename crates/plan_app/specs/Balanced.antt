@@ -10,10 +10,10 @@
 use Rattle.std.specs.Prelude.{◌≡◌, ℕ, List, map, Option, Some, None, Contains}
 use Rattle.std.specs.List.{find}
 use Rattle.plain_list.specs.Texts.{list_text}
-use Rattle.certificate.specs.declared.model.Act.{Act}
-use Rattle.certificate.specs.declared.model.Act.TheVariants.{GiveUp, Goal, Do}
-use Rattle.certificate.specs.declared.model.Row.{Row}
-use Rattle.certificate.specs.Content.{Content}
+use Rattle.certificate.specs.declared.named.NamedAct.{NamedAct as Act}
+use Rattle.certificate.specs.declared.named.NamedAct.TheVariants.{GiveUp, Goal, Do}
+use Rattle.certificate.specs.declared.named.NamedRow.{NamedRow as Row}
+use Rattle.certificate.specs.Content.{Content, named_rows}
 use Rattle.decision_process.specs.Enclosing.{Encloses}
 use Rattle.decision_process.specs.Readings as readings
 use Rattle.decision_process.specs.Readings.{RowAct, GivesUp, AtGoal, Takes, Certificate, act, IsBalancedCertificate}
@@ -35,15 +35,15 @@ module _ (task : Task) where
   row_of r = record { state = state_of_texts task r.atoms; lower = r.lower; upper = r.upper; act = act_of r.act }
 
   abbrev pub certificate_of : Content → Certificate State Instance
-  certificate_of c = record { penalty = c.penalty; rows = map row_of c.rows; lower = c.lower; upper = c.upper }
+  certificate_of c = record { penalty = c.penalty; rows = map row_of (named_rows c); lower = c.lower; upper = c.upper }
 
   module _ (charges : Charges) (c : Content) where
     pub record IsBalancedFor : Type 0 where
-      pub atoms_change : (r : Row) (text : List ℕ) → Contains c.rows r → Contains r.atoms text
+      pub atoms_change : (r : Row) (text : List ℕ) → Contains (named_rows c) r → Contains r.atoms text
           → (a : GroundAtom) × Contains (changing_atoms task) a × (list_text a ≡ text)
-      pub acts_named : (r : Row) (name : List ℕ) → Contains c.rows r → r.act ≡ Do name
+      pub acts_named : (r : Row) (name : List ℕ) → Contains (named_rows c) r → r.act ≡ Do name
           → (i : Instance) × (instance_named name ≡ Some i)
       pub balanced : IsBalancedCertificate (process task charges) same_state (starts task) (start_den task) (certificate_of c)
 
     abbrev pub EnclosesFor : Type 0
-    EnclosesFor = Encloses (process task charges) (starts task) (start_den task) c.lower c.upper (act same_state (map row_of c.rows))
+    EnclosesFor = Encloses (process task charges) (starts task) (start_den task) c.lower c.upper (act same_state (map row_of (named_rows c)))

@@ -1,8 +1,8 @@
 -- Worked examples, which compute: requests, and what the rows of a certificate of the coin say.
 use Rattle.std.specs.Prelude.{◌≡◌, [], ◌∷◌, map, Some, None, codes}
 use Rattle.std.proofs.Common.{refl}
-use Rattle.certificate.specs.declared.model.Row.{Row}
-use Rattle.certificate.specs.declared.model.Act.TheVariants.{Goal, Do}
+use Rattle.certificate.specs.declared.named.NamedRow.{NamedRow as Row}
+use Rattle.certificate.specs.declared.named.NamedAct.TheVariants.{Goal, Do}
 use Rattle.decision_process.specs.Readings.{low, high, act}
 use Rattle.ppddl_model.specs.declared.tree.Effect.TheBlock.{hidden-the_row-Effect-0, hidden-the_row-Branch-2}
 use Rattle.ppddl_model.specs.declared.tree.Condition.TheBlock.{hidden-the_row-Condition-1}

@@ -4,15 +4,14 @@
 --     IsRefused domain                  it is short enough and no thin text
 --     IsRefusedAt domain code file line it is so, with the one refusal of such texts
 --     IsTextOfTask domain task charges  it is a thin text of this task, with these charges
---     IsDecoded f c                     f is the text of the certificate c, of at most MOST_BYTES bytes
+--     IsDecoded f c                     f is the text of the certificate c, of at most its version's greatest length
 --     IsAccepted domain f               the text is thin, and f is the text of a balanced certificate for its task
 --     IsRejected domain f               the text is thin, and f is no such text
 --     IsRejectedAt domain f code row    it is so, with the number and the line of what is wrong with f; 0 and 0 where f is a certificate's text
 --     charged_by task                   the charges of `check`: the goal reward is the penalty, and there is no step cost
 use Rattle.std.specs.Prelude.{◌≡◌, ℕ, ◌<◌, ◌≤◌, List, length, Option, Some, None, Result, Ok, Err}
 use Rattle.std.specs.Option.{unwrap_or}
-use Rattle.certificate.specs.declared.limits.TheConstants.{MOST_BYTES}
-use Rattle.certificate.specs.Content.{Content, IsTextOf}
+use Rattle.certificate.specs.Content.{Content, IsTextOf, most_bytes}
 use Rattle.certificate.specs.Reading.{read_of}
 use Rattle.certificate.specs.Refusals.{number_of, line_of}
 use Rattle.certificate.specs.declared.refusal.CertRefusal.{CertRefusal}
@@ -59,7 +58,7 @@ pub record IsTextOfTask (domain : List ℕ) (task : Task) (charges : Charges) : 
 
 pub record IsDecoded (f : List ℕ) (c : Content) : Type 0 where
   pub text : IsTextOf f c
-  pub within : length f ≤ MOST_BYTES
+  pub within : length f ≤ most_bytes c.version
 
 abbrev pub IsAccepted : List ℕ → List ℕ → Type 0
 IsAccepted domain f = (task : Task) × (charges : Charges) × (c : Content) × IsTextOfTask domain task charges × IsDecoded f c × IsBalancedFor task charges c

@@ -16,10 +16,10 @@ use Rattle.std.specs.Prelude.{◌≡◌, ℕ, ◌*◌, ◌≤◌, ◌==◌, cond
 use Rattle.std.specs.List.{find, list_all}
 use Rattle.std.specs.Ordering.{nat_cmp}
 use Rattle.std.specs.BTreeMap.{get}
-use Rattle.certificate.specs.declared.model.Act.{Act}
-use Rattle.certificate.specs.declared.model.Act.TheVariants.{GiveUp, Goal, Do}
-use Rattle.certificate.specs.declared.model.Row.{Row}
-use Rattle.certificate.specs.Content.{Content}
+use Rattle.certificate.specs.declared.named.NamedAct.{NamedAct as Act}
+use Rattle.certificate.specs.declared.named.NamedAct.TheVariants.{GiveUp, Goal, Do}
+use Rattle.certificate.specs.declared.named.NamedRow.{NamedRow as Row}
+use Rattle.certificate.specs.Content.{Content, named_rows}
 use Rattle.ppddl_model.specs.State.{Name}
 use Rattle.plan_app.specs.declared.checker.packed_task.PackedTask.{PackedTask}
 use Rattle.plan_app.specs.declared.checker.packed_action.PackedAction.{PackedAction}
@@ -85,4 +85,4 @@ module _ (packed : PackedTask) (table : RowTable) where
     IsStartInterval lower upper = (lower ≡ lower_at table packed.start) × (upper ≡ upper_at packed.start)
 
     abbrev pub IsBalancedBy : Content → Type 0
-    IsBalancedBy c = (c.penalty ≡ penalty) × AreBalanced c.rows × IsStartInterval c.lower c.upper
+    IsBalancedBy c = (c.penalty ≡ penalty) × AreBalanced (named_rows c) × IsStartInterval c.lower c.upper

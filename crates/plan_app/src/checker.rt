@@ -5,22 +5,25 @@
 //! the checker over ground problems.
 
 ghost use Rattle.std.specs.Prelude.{◌≡◌, ◌↔◌, map, IfOk, IsTrue};
+ghost use Rattle.certificate.specs.Content.{named_rows};
 ghost use Rattle.ppddl_reader.specs.ThinTask.{IsThinTask};
 ghost use Rattle.plan_app.specs.Balanced.{IsBalancedFor};
 ghost use Rattle.plan_app.specs.Inputs.{charging};
 ghost use Rattle.plan_app.specs.RowTable.{row_bits, IsBalancedBy};
 
 mod bits;
+mod named_rows;
 mod packed_action;
 mod packed_goal;
 mod packed_task;
 mod row_table;
 mod rows;
 
+use crate::checker::named_rows::named_rows;
 use crate::checker::packed_task::PackedTask;
 use crate::checker::row_table::RowTable;
 use crate::checker::rows::{are_balanced, is_interval};
-use certificate::Certificate;
+use certificate::{Certificate, NamedRow};
 use ppddl_model::Task;
 use std::alloc::{AllocError, Global};
 
@@ -37,9 +40,10 @@ pub(crate) fn is_balanced(
         ↔ IsBalancedFor task.now (charging penalty) certificate.now) }
 {
     let packed = PackedTask::new(alloc, task)?;
-    match RowTable::new(alloc, packed.names.as_slice(), certificate.rows())? {
+    let rows = named_rows(alloc, certificate)?;
+    match RowTable::new(alloc, packed.names.as_slice(), rows.as_slice())? {
         None => Ok(false),
-        Some(table) => Ok(is_balanced_by(&packed, &table, penalty, certificate)),
+        Some(table) => Ok(is_balanced_by(&packed, &table, penalty, certificate, rows.as_slice())),
     }
 }
 
@@ -49,11 +53,13 @@ fn is_balanced_by(
     table: &RowTable,
     penalty: u64,
     certificate: &Certificate,
+    rows: &[NamedRow],
 ) -> bool
-    requires { table.now.keys.items ≡ map (row_bits packed.now.names) certificate.now.rows }
+    requires rows { rows.now ≡ named_rows certificate.now }
+    requires keys { table.now.keys.items ≡ map (row_bits packed.now.names) rows.now }
     ensures { IsTrue result ↔ IsBalancedBy packed.now table.now penalty certificate.now }
 {
     certificate.penalty() == penalty
-        && are_balanced(packed, table, penalty, certificate.rows())
+        && are_balanced(packed, table, penalty, rows)
         && is_interval(packed, table, penalty, certificate)
 }

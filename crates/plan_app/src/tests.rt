@@ -67,7 +67,7 @@ fn check_run<R: Threads + Sync + Abort>(
 /// Certificates of the coin, with the status and what is printed.
 #[test]
 fn certificates_of_the_coin(rt: HostRuntime) -> Result<(), Fail> {
-    let rows: [(&[u8], u8, &[u8]); 9] = [
+    let rows: [(&[u8], u8, &[u8]); 13] = [
         // The values themselves, with a row for the goal.
         (
             b"cert 1\npenalty 10000000\ninterval 2000000 2000000\nstates 2\n2000000 2000000 (flip) :\n0 0 goal : (done)\nend\n",
@@ -117,6 +117,30 @@ fn certificates_of_the_coin(rt: HostRuntime) -> Result<(), Fail> {
             b"cert 1\npenalty 10000000\ninterval 2000000 2000000\nstates 2\n2000000 2000000 (flip) :\nend\n",
             7,
             b"not accepted 32 6\n",
+        ),
+        // A text of version 2.
+        (
+            b"cert 2\npenalty 10000000\ninterval 1999999 2000001\natoms 0\nacts 1\n(flip)\nstates 1\n1999999 2000001 0 :\nend\n",
+            0,
+            b"accepted\ninterval 1.999999 2.000001\nstates 1\n",
+        ),
+        // An entry that no row uses.
+        (
+            b"cert 2\npenalty 10000000\ninterval 1999999 2000001\natoms 1\n(done)\nacts 1\n(flip)\nstates 1\n1999999 2000001 0 :\nend\n",
+            7,
+            b"not accepted 40 5\n",
+        ),
+        // A number that is its table's length.
+        (
+            b"cert 2\npenalty 10000000\ninterval 1999999 2000001\natoms 0\nacts 1\n(flip)\nstates 1\n1999999 2000001 1 :\nend\n",
+            7,
+            b"not accepted 30 8\n",
+        ),
+        // An entry that stands twice.
+        (
+            b"cert 2\npenalty 10000000\ninterval 1999999 2000001\natoms 0\nacts 2\n(flip)\n(flip)\nstates 1\n1999999 2000001 0 :\nend\n",
+            7,
+            b"not accepted 31 7\n",
         ),
     ];
     for (certificate, status, text) in rows {

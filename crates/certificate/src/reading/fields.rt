@@ -3,8 +3,8 @@
 ghost use Rattle.std.specs.Prelude.{◌≡◌, option_map};
 ghost use Rattle.std.specs.Option.{option_copied};
 ghost use Rattle.certificate.specs.Names.{is_lower_name};
-ghost use Rattle.certificate.specs.Decoding.{behind, cut, is_plain, number_of, field_at};
-ghost use Rattle.certificate.specs.Decoding.{are_names, list_at, atom_at};
+ghost use Rattle.certificate.specs.Decoding.{behind, cut, is_plain, number_of, number_at, field_at};
+ghost use Rattle.certificate.specs.Decoding.{place_at, are_names, list_at, atom_at, list_of};
 
 use crate::MOST_UNITS;
 use memchr::memchr;
@@ -56,14 +56,45 @@ pub(super) fn number_of(text: &[u8]) -> Option<u64>
     Some(number)
 }
 
+/// The number of at most 10^14 whose digits the text begins with, and what stands behind it.
+pub(super) fn number_at(text: &[u8]) -> Option<(u64, &[u8])>
+    ensures { option_map (λ found. (found.0, found.1.now)) result ≡ number_at text.now }
+{
+    let mut number = 0;
+    let mut length = 0;
+    while length < text.len() && text[length].is_ascii_digit() {
+        number = number * 10 + u64::from(text[length] - b'0');
+        if number > MOST_UNITS {
+            return None;
+        }
+        length += 1;
+    }
+    if !is_plain(&text[..length]) {
+        return None;
+    }
+    Some((number, &text[length..]))
+}
+
 /// A number that a blank ends, and what stands behind it.
 #[tactic(auto, unfolding(crate::specs::Decoding::field_at))]
 pub(super) fn field_at(text: &[u8]) -> Option<(u64, &[u8])>
     ensures { option_map (λ found. (found.0, found.1.now)) result ≡ field_at text.now }
 {
-    let (digits, rest) = cut(b' ', text)?;
-    let number = number_of(digits)?;
+    let (number, rest) = number_at(text)?;
+    let rest = behind(b" ", rest)?;
     Some((number, rest))
+}
+
+/// The place below a length that the text begins with, and what stands behind it.
+#[tactic(auto, unfolding(crate::specs::Decoding::place_at))]
+pub(super) fn place_at(length: u32, text: &[u8]) -> Option<(u32, &[u8])>
+    ensures { option_map (λ found. (found.0, found.1.now)) result ≡ place_at length text.now }
+{
+    let (place, rest) = number_at(text)?;
+    if place >= u64::from(length) {
+        return None;
+    }
+    Some((place as u32, rest))
 }
 
 /// Whether a word is a name in lower case.
@@ -91,6 +122,15 @@ pub(super) fn list_at(text: &[u8]) -> Option<(&[u8], &[u8])>
         return None;
     }
     Some((&text[..names.len() + 2], rest))
+}
+
+/// The list of names that a line is.
+#[tactic(auto, unfolding(crate::specs::Decoding::list_of))]
+pub(super) fn list_of(line: &[u8]) -> Option<&[u8]>
+    ensures { option_copied result ≡ list_of line.now }
+{
+    let (list, rest) = list_at(line)?;
+    rest.is_empty().then_some(list)
 }
 
 /// The list of names behind a blank that a text begins with, and what stands behind it.

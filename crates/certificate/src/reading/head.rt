@@ -1,17 +1,20 @@
 //! The lines before the rows.
 
 ghost use Rattle.std.specs.Prelude.{◌≡◌, ◌≤◌, IfSome};
-ghost use Rattle.certificate.specs.Decoding.{penalty_of, interval_of, count_of};
-ghost use Rattle.certificate.specs.Reading.{header_of};
+ghost use Rattle.certificate.specs.Decoding.{header_of, penalty_of, interval_of, count_of};
 
-use crate::MOST_ROWS;
+use crate::MOST_COUNT;
 use crate::reading::fields::{behind, field_at, number_of};
 
 /// The first line, which names the version.
-pub(super) fn header_of(line: &[u8]) -> Option<()>
+#[tactic(auto, unfolding(crate::specs::Decoding::header_of))]
+pub(super) fn header_of(line: &[u8]) -> Option<u32>
     ensures { result ≡ header_of line.now }
 {
-    (line == b"cert 1".as_slice()).then_some(())
+    if line == b"cert 1".as_slice() {
+        return Some(1);
+    }
+    (line == b"cert 2".as_slice()).then_some(2)
 }
 
 /// The penalty that a line says, at least 1 micro-unit.
@@ -33,14 +36,14 @@ pub(super) fn interval_of(line: &[u8]) -> Option<(u64, u64)>
     Some((lower, upper))
 }
 
-/// The number of rows that a line says.
+/// The count that a line says behind the word, which has its blank.
 #[tactic(auto, unfolding(crate::specs::Decoding::count_of))]
-pub(super) fn count_of(line: &[u8]) -> Option<u32>
-    ensures value { result ≡ count_of line.now }
-    ensures bounded { IfSome result (λ count. count ≤ MOST_ROWS) }
+pub(super) fn count_of(word: &[u8], line: &[u8]) -> Option<u32>
+    ensures value { result ≡ count_of word.now line.now }
+    ensures bounded { IfSome result (λ count. count ≤ MOST_COUNT) }
 {
-    let count = number_of(behind(b"states ", line)?)?;
-    if count > MOST_ROWS {
+    let count = number_of(behind(word, line)?)?;
+    if count > MOST_COUNT {
         return None;
     }
     Some(count as u32)

@@ -2,7 +2,8 @@
 
 ghost use Rattle.std.specs.Prelude.{◌≡◌};
 ghost use Rattle.certificate.specs.Decoding.{parts};
-ghost use Rattle.certificate.specs.Reading.{line_at, nothing_at};
+ghost use Rattle.certificate.specs.Counted.{line_at};
+ghost use Rattle.certificate.specs.Reading.{end_of, nothing_at};
 ghost use Rattle.certificate.specs.Answers.{GivesCertificate};
 
 use crate::CertRefusal;
@@ -14,6 +15,13 @@ pub(super) fn line_at(line: u32, bytes: &[u8]) -> Result<(&[u8], &[u8]), CertRef
         (line_at line (parts 10 bytes.now)) }
 {
     cut(b'\n', bytes).ok_or(CertRefusal::Syntax { line })
+}
+
+/// The last line.
+pub(super) fn end_of(line: &[u8]) -> Option<()>
+    ensures { result ≡ end_of line.now }
+{
+    (line == b"end".as_slice()).then_some(())
 }
 
 /// Checks that behind `end` stands nothing.

@@ -1,7 +1,7 @@
 //! The rows of a certificate by the bits of their states.
 
 use crate::checker::bits::bits_of_texts;
-use certificate::Row;
+use certificate::NamedRow;
 use plain_list::Text;
 use std::alloc::{AllocError, Global};
 use std::collections::BTreeMap;
@@ -28,7 +28,7 @@ impl RowTable {
     pub(super) fn new(
         alloc: Global,
         names: &[Text],
-        rows: &[Row],
+        rows: &[NamedRow],
     ) -> Result<Option<Self>, AllocError>
         requires { length names.now ≤ 64 }
         ensures { IfOk result (IsTableOf names.now rows.now) }

@@ -6,7 +6,7 @@ ghost use Rattle.plan_app.specs.RowTable.{IsRowBalanced, AreBalanced, IsStartInt
 
 use crate::checker::packed_task::PackedTask;
 use crate::checker::row_table::RowTable;
-use certificate::{Act, Certificate, Row};
+use certificate::{Certificate, NamedAct, NamedRow};
 
 /// The upper value of a state.
 pub(super) fn upper(packed: &PackedTask, table: &RowTable, penalty: u64, bits: u64) -> u64
@@ -35,14 +35,20 @@ fn lower_follows(packed: &PackedTask, table: &RowTable, bits: u64, lower: u64) -
 }
 
 /// Whether the upper value of a state is at least what its act costs from there.
-fn upper_follows(packed: &PackedTask, table: &RowTable, penalty: u64, bits: u64, row: &Row) -> bool
+fn upper_follows(
+    packed: &PackedTask,
+    table: &RowTable,
+    penalty: u64,
+    bits: u64,
+    row: &NamedRow,
+) -> bool
     ensures { IsTrue result
         ↔ UpperFollows packed.now table.now penalty bits row.now.upper row.now.act }
 {
     match &row.act {
-        Act::GiveUp => penalty <= row.upper,
-        Act::Goal => false,
-        Act::Do(name) => match packed.step_named(name.as_slice()) {
+        NamedAct::GiveUp => penalty <= row.upper,
+        NamedAct::Goal => false,
+        NamedAct::Do(name) => match packed.step_named(name.as_slice()) {
             None => false,
             Some(step) => {
                 let next = upper(packed, table, penalty, bits | step.mask);
@@ -58,12 +64,12 @@ fn is_row_balanced(
     table: &RowTable,
     penalty: u64,
     bits: u64,
-    row: &Row,
+    row: &NamedRow,
 ) -> bool
     ensures { IsTrue result ↔ IsRowBalanced packed.now table.now penalty bits row.now }
 {
     if packed.goal.is_reached(bits) {
-        return row.lower == 0 && row.upper == 0 && matches!(row.act, Act::Goal);
+        return row.lower == 0 && row.upper == 0 && matches!(row.act, NamedAct::Goal);
     }
     row.lower <= penalty
         && lower_follows(packed, table, bits, row.lower)
@@ -75,7 +81,7 @@ pub(super) fn are_balanced(
     packed: &PackedTask,
     table: &RowTable,
     penalty: u64,
-    rows: &[Row],
+    rows: &[NamedRow],
 ) -> bool
     requires { table.now.keys.items ≡ map (row_bits packed.now.names) rows.now }
     ensures { IsTrue result ↔ AreBalanced packed.now table.now penalty rows.now }

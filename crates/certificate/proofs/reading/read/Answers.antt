@@ -1,6 +1,6 @@
 use Rattle.std.proofs.Common.{subst}
 use Rattle.certificate.specs.Answers.{GivesCertificate}
-use Rattle.certificate.proofs.Again.{is_found, text_is_read}
+use Rattle.certificate.proofs.TextLaws.{is_found, text_is_read}
 use Rattle.certificate.proofs.reading.read.Goals as goal
 
 pub returns-clause-found : goal.returns-clause-found

@@ -1,6 +1,6 @@
 use Rattle.std.proofs.Common.{take}
 use Rattle.std.specs.Prelude.{Contains}
-use Rattle.certificate.specs.declared.model.Row.{Row}
+use Rattle.certificate.specs.declared.named.NamedRow.{NamedRow as Row}
 use Rattle.plan_app.specs.RowTable.{row_bits, IsRowBalanced}
 use Rattle.plan_app.proofs.checker.rows.are_balanced.Given as goal
 
