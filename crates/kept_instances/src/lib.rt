@@ -1,0 +1,13 @@
+//! What is known of conditions before any step is taken, by which the instances of actions are kept
+//! that may ever be open.
+#![tactic(auto)]
+
+mod first_facts;
+mod knowing;
+mod name_set;
+mod scope;
+
+pub use first_facts::FirstFacts;
+pub use knowing::known;
+pub use name_set::NameSet;
+pub use scope::{Scope, named};
