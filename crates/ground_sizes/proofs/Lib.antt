@@ -2,7 +2,6 @@ pub mod Stopping
 pub mod OfTypes
 pub mod ManyWays
 pub mod SizeSteps
-pub mod LeastValues
 pub mod DenSteps
 pub mod CostSteps
 pub mod Forgetting

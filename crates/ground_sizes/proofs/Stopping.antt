@@ -5,6 +5,9 @@ use Rattle.std.proofs.lemmas.Bool.{cases_lt}
 use Rattle.std.proofs.Math.Nat.{mul_comm, pow-succ', pow-zero, pow-le-pow_left, pow-le-pow_right}
 use Rattle.ground_sizes.specs.Counted.{counted}
 
+pub counted_within : (n : ℕ) → n < 18446744073709551616 → n ≡ counted n
+counted_within n within = omega (arith, within)
+
 pub counted-add : (a b : ℕ) → counted (counted a + counted b) ≡ counted (a + b)
 counted-add a b = omega arith
 

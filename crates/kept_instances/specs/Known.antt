@@ -14,7 +14,7 @@ use Rattle.ppddl_model.specs.State.{Name, same_name, GroundAtom, State, no_atoms
 use Rattle.ppddl_model.specs.Objects.{World, Binding}
 use Rattle.ppddl_model.specs.Known.{known, known_and, known_or, known_all, known_any}
 use Rattle.ppddl_model.specs.Changing.{fact_atoms}
-use Rattle.kept_instances.specs.Keys.{key_of}
+use Rattle.ground_names.specs.Keys.{key_of}
 
 abbrev pub facts_of : List InitItem → List GroundAtom
 facts_of init = flat_map fact_atoms init

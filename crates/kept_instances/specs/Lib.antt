@@ -1,3 +1,1 @@
-pub mod Scopes
-pub mod Keys
 pub mod Known

@@ -1,14 +1,13 @@
 //! What is known of atoms beforehand.
 
-ghost use Rattle.std.specs.Prelude.{◌≡◌, None, Some, cond, IfOk, OnOk, ◌++◌};
+ghost use Rattle.std.specs.Prelude.{◌≡◌, None, Some, cond, IfOk};
 ghost use Rattle.std.specs.List.{list_any};
 ghost use Rattle.ppddl_model.specs.State.{same_name};
 ghost use Rattle.ppddl_model.specs.Objects.{ground_atom};
-ghost use Rattle.kept_instances.specs.Keys.{key_of, name_key};
-ghost use Rattle.kept_instances.specs.Scopes.{binding_of};
+ghost use Rattle.ground_names.specs.Keys.{key_of};
+ghost use Rattle.ground_names.specs.Scopes.{binding_of};
 
-use crate::name_set::NameSet;
-use crate::scope::{Scope, named};
+use ground_names::{NameSet, Scope, atom_key};
 use ppddl_model::{Atom, InitItem};
 use std::alloc::{AllocError, Global};
 
@@ -23,30 +22,6 @@ pub struct FirstFacts<'a> {
     pub keys: NameSet,
 }
 
-/// Puts a name behind a key: each byte behind a 1, and a 0 at its end.
-fn push_name(key: &mut Vec<u8>, name: &[u8]) -> Result<(), AllocError>
-    ensures { OnOk result (key.new.items ≡ key.old.items ++ name_key name.now) }
-{
-    for byte in name {
-        key.push(1)?;
-        key.push(*byte)?;
-    }
-    key.push(0)?;
-    Ok(())
-}
-
-/// The key of an atom under a scope.
-fn atom_key(alloc: Global, scope: &Scope<'_>, atom: &Atom) -> Result<Vec<u8>, AllocError>
-    ensures { IfOk result (λ key. key.items ≡ key_of (ground_atom (binding_of scope.now) atom.now)) }
-{
-    let mut key = Vec::new(alloc);
-    push_name(&mut key, atom.predicate.as_slice())?;
-    for term in atom.args.as_slice() {
-        push_name(&mut key, named(&*scope, term))?;
-    }
-    Ok(key)
-}
-
 /// What is known of an atom.
 pub(crate) fn known_atom(
     alloc: Global,
@@ -54,8 +29,10 @@ pub(crate) fn known_atom(
     atom: &Atom,
     scope: &Scope<'_>,
 ) -> Result<Option<bool>, AllocError>
-    ensures { IfOk result (λ k. k ≡ cond (list_any (same_name atom.now.predicate) facts.now.changing) None
-        (Some (list_any (same_name (key_of (ground_atom (binding_of scope.now) atom.now))) facts.now.keys))) }
+    ensures { IfOk result (λ k. k ≡ cond
+        (list_any (same_name atom.now.predicate) facts.now.changing) None
+        (Some (list_any (same_name (key_of (ground_atom (binding_of scope.now) atom.now)))
+        facts.now.keys))) }
 {
     if facts.changing.has(atom.predicate.as_slice()) {
         return Ok(None);

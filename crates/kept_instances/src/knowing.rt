@@ -7,10 +7,10 @@ ghost use Rattle.ppddl_model.specs.Objects.{bindings, named};
 ghost use Rattle.ppddl_model.specs.State.{same_name};
 ghost use Rattle.ground_sizes.specs.Typed.{IsTyped};
 ghost use Rattle.kept_instances.specs.Known.{known_in, joined, joined_each, AreKeys};
-ghost use Rattle.kept_instances.specs.Scopes.{binding_of};
+ghost use Rattle.ground_names.specs.Scopes.{binding_of};
 
 use crate::first_facts::{FirstFacts, known_atom};
-use crate::scope::{Scope, named};
+use ground_names::{Scope, named};
 use ground_sizes::objects_of;
 use ppddl_model::{Condition, Param, Term};
 use std::alloc::{AllocError, Global};

@@ -4,10 +4,6 @@
 
 mod first_facts;
 mod knowing;
-mod name_set;
-mod scope;
 
 pub use first_facts::FirstFacts;
 pub use knowing::known;
-pub use name_set::NameSet;
-pub use scope::{Scope, named};

@@ -9,6 +9,6 @@ abbrev pub invariant-loop-part : goal.invariant-loop-part
 invariant-loop-part l = record {
   small : counted l.cost ≡ l.cost;
   rest :
-      counted (l.cost + total (unconditional_cost (with_values l.table l.values)) (drop l.part-index l.part-items))
-      ≡ counted (unconditional_cost (with_values l.table l.values) l.effect);
+      counted (l.cost + total (unconditional_cost (with_values l.table l.least)) (drop l.part-index l.part-items))
+      ≡ counted (unconditional_cost (with_values l.table l.least) l.effect);
 }

@@ -8,7 +8,7 @@ use Rattle.weighted.specs.Mean.{total}
 use Rattle.ppddl_model.specs.declared.tree.Condition.{Condition}
 use Rattle.type_table.specs.Types.{object_at}
 use Rattle.kept_instances.specs.Known.{known_in, joined, joined_each}
-use Rattle.kept_instances.specs.Scopes.{binding_of}
+use Rattle.ground_names.specs.Scopes.{binding_of}
 use Rattle.kept_instances.proofs.KnowSteps.{mass, mass-All, mass-Any, mass-Not, mass-Imply, mass-Exists, mass-Forall, mass-part, of_object, joined-none, map_map, first_variable, each-more, tail_is, if_ok, known-All, known-Any, known-Not, known-Imply, known-Exists, known-Forall}
 use Rattle.kept_instances.proofs.knowing.+knowing.Goals as goal
 

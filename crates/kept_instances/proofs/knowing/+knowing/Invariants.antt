@@ -4,7 +4,7 @@ use Rattle.ppddl_model.specs.declared.tree.Condition.{Condition}
 use Rattle.ppddl_model.specs.Objects.{bindings}
 use Rattle.type_table.specs.Types.{object_at}
 use Rattle.kept_instances.specs.Known.{known_in, joined, joined_each}
-use Rattle.kept_instances.specs.Scopes.{binding_of}
+use Rattle.ground_names.specs.Scopes.{binding_of}
 use Rattle.kept_instances.proofs.KnowSteps.{mass, of_object}
 use Rattle.kept_instances.proofs.knowing.+knowing.Given as goal
 

@@ -2,7 +2,7 @@ use Rattle.std.proofs.Common.{ap, ◌∙◌}
 use Rattle.std.specs.Cmp.Lexicographic.{texts_ties}
 use Rattle.ppddl_model.specs.State.{same_name}
 use Rattle.ppddl_model.specs.Objects.{named}
-use Rattle.kept_instances.specs.Scopes.{binding_of}
+use Rattle.ground_names.specs.Scopes.{binding_of}
 use Rattle.kept_instances.proofs.knowing.is_same.Goals as goal
 
 pub returns : goal.returns

@@ -1,0 +1,4 @@
+pub mod Scopes
+pub mod Keys
+pub mod Maps
+pub mod Values
