@@ -1,0 +1,10 @@
+mod Lists
+mod Words
+mod Facts
+mod States
+mod Looks
+mod Numbers
+mod Ids
+mod Seats
+mod Told
+mod Publishing

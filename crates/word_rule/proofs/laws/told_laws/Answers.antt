@@ -1,0 +1,18 @@
+-- The laws of what is told, by their lemmas.
+use Rattle.word_rule.proofs.Told.{lower_is_told, upper_is_told, count_is_told, held_is_told, states_are_told}
+use Rattle.word_rule.proofs.laws.told_laws.Goals as goal
+
+pub returns-clause-lower : goal.returns-clause-lower
+returns-clause-lower c = lower_is_told
+
+pub returns-clause-upper : goal.returns-clause-upper
+returns-clause-upper c = upper_is_told
+
+pub returns-clause-count : goal.returns-clause-count
+returns-clause-count c = count_is_told
+
+pub returns-clause-held : goal.returns-clause-held
+returns-clause-held c = held_is_told
+
+pub returns-clause-states : goal.returns-clause-states
+returns-clause-states c = states_are_told

@@ -1,0 +1,4 @@
+pub mod Words
+pub mod Rule
+pub mod Told
+pub mod Laws
