@@ -1,0 +1,5 @@
+pub mod Adding
+pub mod Naming
+pub mod Facts
+pub mod Known
+pub mod Made

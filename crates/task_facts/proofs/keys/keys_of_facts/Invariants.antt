@@ -1,0 +1,6 @@
+use Rattle.std.proofs.Common.{◌≡◌, [], flat_map, drop}
+use Rattle.task_facts.specs.Adding.{with_names, fact_keys}
+use Rattle.task_facts.proofs.keys.keys_of_facts.Given as goal
+
+abbrev pub invariant-loop-item : goal.invariant-loop-item
+invariant-loop-item l = with_names l.keys (flat_map fact_keys (drop l.item-index l.items)) ≡ with_names [] (flat_map fact_keys l.items)

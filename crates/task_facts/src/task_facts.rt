@@ -1,0 +1,127 @@
+//! What never changes in a task.
+
+ghost use Rattle.std.specs.Prelude.{◌≡◌, IfOk};
+ghost use Rattle.ppddl_model.specs.Objects.{ground_atom};
+ghost use Rattle.ppddl_model.specs.Functions.{has_value};
+ghost use Rattle.ppddl_model.specs.Steps.{world};
+ghost use Rattle.ppddl_model.specs.Changing.{known_of};
+ghost use Rattle.ppddl_model.specs.WellFormed.{IsWellFormed};
+ghost use Rattle.ground_names.specs.Scopes.{binding_of};
+ghost use Rattle.ground_sizes.specs.Typed.{IsTyped};
+ghost use Rattle.task_facts.specs.Facts.{table_of};
+
+use crate::keys::{keys_of_facts, keys_of_values};
+use crate::objects::objects_of_task;
+use crate::predicates::changing_predicates;
+use ground_names::{NameSet, Scope, atom_key};
+use kept_instances::{FirstFacts, known};
+use ppddl_model::{Atom, Condition, Task};
+use std::alloc::{AllocError, Global};
+use std::marker::Model;
+use type_table::TypeTable;
+
+/// What never changes in a well-formed task: its types and objects, which predicates may change, the
+/// facts of `:init` and the function terms that have values. Contracts see the task.
+#[derive(Drop)]
+pub struct TaskFacts<'a> {
+    task: &'a Task,
+    table: TypeTable,
+    facts: FirstFacts<'a>,
+    valued: NameSet,
+}
+
+impl<'a> Model for TaskFacts<'a> {
+    ghost use Rattle.std.specs.Coded.{codes};
+    ghost use Rattle.ppddl_model.specs.contracts.tree.Condition as condition;
+    ghost use Rattle.ppddl_model.specs.contracts.tree.Effect as effect;
+    ghost use Rattle.ppddl_model.specs.declared.tree.Task.{Task};
+    ghost use Rattle.task_facts.specs.Facts.{AreFactsOf};
+
+    ghost Value = { Task };
+
+    ghost coded = { Prim.hlevel (codes, condition.the_row.coded, effect.the_row.coded) };
+
+    ghost view = { λ f. f.task.now };
+
+    ghost invariant = { λ f. AreFactsOf f.task.now f.table f.facts.changing f.facts.keys
+        f.facts.init.now f.valued };
+}
+
+/// The types and objects of a task. It is refused for want of memory alone, since a well-formed task has
+/// no cycle of types.
+fn table(alloc: Global, task: &Task) -> Result<TypeTable, AllocError>
+    requires { IsWellFormed task.now }
+    ensures { IfOk result (λ table. table ≡ table_of task.now) }
+{
+    let objects = objects_of_task(alloc, task)?;
+    match TypeTable::make(alloc, task.domain.types.as_slice(), objects.as_slice()) {
+        Ok(table) => Ok(table),
+        Err(_) => Err(AllocError),
+    }
+}
+
+impl<'a> TaskFacts<'a> {
+    /// What never changes in this task. It is refused for want of memory alone.
+    pub fn make(alloc: Global, task: &'a Task) -> Result<TaskFacts<'a>, AllocError>
+        requires { IsWellFormed task.now }
+        ensures { IfOk result (λ facts. facts ≡ task.now) }
+    {
+        let table = table(alloc, task)?;
+        let changing = changing_predicates(alloc, task)?;
+        let init = task.problem.init.as_slice();
+        let keys = keys_of_facts(alloc, init)?;
+        let valued = keys_of_values(alloc, task.problem.values.as_slice())?;
+        let facts = FirstFacts {
+            changing,
+            init,
+            keys,
+        };
+        Ok(TaskFacts {
+            task,
+            table,
+            facts,
+            valued,
+        })
+    }
+
+    /// The task.
+    pub fn task(&self) -> &'a Task
+        ensures { result.now ≡ self.now }
+    {
+        self.task
+    }
+
+    /// Its types and objects.
+    pub fn table(&self) -> &TypeTable
+        ensures table { result.now ≡ table_of self.now }
+        ensures typed { IsTyped result.now }
+    {
+        &self.table
+    }
+
+    /// What is known of a condition in every reachable state.
+    pub fn known(
+        &self,
+        alloc: Global,
+        condition: &Condition,
+        scope: &Scope<'_>,
+    ) -> Result<Option<bool>, AllocError>
+        ensures { IfOk result (λ k. k ≡ known_of self.now condition.now (binding_of scope.now)) }
+    {
+        known(alloc, &self.table, &self.facts, condition, scope)
+    }
+
+    /// Whether a function term has a value.
+    pub fn has_value(
+        &self,
+        alloc: Global,
+        term: &Atom,
+        scope: &Scope<'_>,
+    ) -> Result<bool, AllocError>
+        ensures { IfOk result (λ has. has
+            ≡ has_value (world self.now) (ground_atom (binding_of scope.now) term.now)) }
+    {
+        let key = atom_key(alloc, scope, term)?;
+        Ok(self.valued.has(key.as_slice()))
+    }
+}
