@@ -13,3 +13,4 @@ pub mod Choosing
 pub mod Allowance
 pub mod Starts
 pub mod Prefixes
+pub mod Tire

@@ -37,7 +37,8 @@ fn start_row(alloc: Global, problem: &GroundProblem, state: &State) -> Result<Id
 
 /// The rows of the starts.
 fn start_rows(alloc: Global, problem: &GroundProblem) -> Result<Vec<IdRow>, AllocError>
-    ensures { IfOk result (λ rows. rows.items ≡ map (start_row problem.now) (start_states problem.now)) }
+    ensures { let g = problem.now
+        in IfOk result (λ rows. rows.items ≡ map (start_row g) (start_states g)) }
 {
     let mut rows = Vec::new(alloc);
     for start in problem.starts() {

@@ -24,7 +24,8 @@ pub(crate) struct Board {
 impl Board {
     /// The worker of this number, where it works.
     pub(crate) fn live(&self, worker: u32) -> Option<&Worker>
-        ensures { option_map (λ (w : Bor Worker). w.now) result ≡ live_in self.now.workers.items worker }
+        ensures { let found = option_map (λ (w : Bor Worker). w.now) result
+            in found ≡ live_in self.now.workers.items worker }
     {
         match self.workers.get(worker as usize) {
             Some(found) if found.live => Some(found),

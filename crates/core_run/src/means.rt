@@ -45,7 +45,8 @@ pub(crate) fn action_value(
     requires formed { board.now.states.items ≡ map state_in board.now.ids.items }
     requires fits { length next.old ≡ length state.now }
     requires action { IsAction (length problem.now.atoms) action.now }
-    requires bounded { (s : State) → numbers problem.now board.now.ids.items seen.now side s ≤ MOST_PENALTY }
+    requires bounded { let v = numbers problem.now board.now.ids.items seen.now side
+        in (s : State) → v s ≤ MOST_PENALTY }
     ensures value { let v = numbers problem.now board.now.ids.items seen.now side
         in result ≡ own_action_value v action.now state.now }
     ensures fits { length next.new ≡ length state.now }
