@@ -1,0 +1,82 @@
+-- Turns: what is drawn of the choices of a backup, and what follows.
+--     is_narrow a den total          no choice is wide, or all of them are narrow beside the drawn start: their mean width is
+--                                    below the gap divided by tau
+--     stop_at a n code den total     how a trial ends at its turn n before a choice is drawn, if it does: by giving up, by what
+--                                    is narrow, and by the depth, in this order
+--     onward a n t                   what follows the turn n
+--     IsDrawn r steps total d        d was drawn of the steps by the number r
+--     IsDraw e r steps total d       it was drawn exactly where the trial does not end before
+--     IsTurn a n s u t               t is turn n of a trial, from the bounds s to the bounds u
+--     AreTurns ts n id s e z         these are the turns behind turn n; the first is at the state id, from the bounds s to
+--                                    the bounds z, and the trial ends by e
+use Rattle.std.specs.Prelude.{◌≡◌, ℕ, ◌+◌, ◌*◌, ◌%◌, ◌==◌, nat_lt, Bool, true, cond}
+use Rattle.std.specs.Prelude.{Option, Some, None, List, [], ◌∷◌, sum}
+use Rattle.std.specs.List.{slice_get}
+use Rattle.brtdp_trial.specs.Meaning.{Last, Told, AreChoices, spreads}
+use Rattle.brtdp_trial.specs.Draws.{IsFirstAbove}
+use Rattle.brtdp_trial.specs.declared.aim.Aim.{Aim}
+use Rattle.brtdp_trial.specs.declared.step.TheConstants.{GIVE_UP}
+use Rattle.brtdp_trial.specs.declared.step.Step.{Step}
+use Rattle.brtdp_trial.specs.declared.turn.Drawn.{Drawn}
+use Rattle.brtdp_trial.specs.declared.turn.Turn.{Turn}
+use Rattle.brtdp_trial.specs.declared.ends.TrialEnd.{TrialEnd}
+use Rattle.brtdp_trial.specs.declared.ends.TrialEnd.TheVariants.{Dead, Narrow, Depth, Unplaced}
+use Rattle.brtdp_trial.specs.declared.ends.Onward.{Onward}
+use Rattle.brtdp_trial.specs.declared.ends.Onward.TheVariants.{Ends, Goes}
+
+abbrev pub is_narrow : Aim → ℕ → ℕ → Bool
+is_narrow a den total = cond (total == 0) true (nat_lt (total * a.tau) (a.gap * den))
+
+abbrev pub stop_at : Aim → ℕ → ℕ → ℕ → ℕ → Option TrialEnd
+stop_at a n code den total =
+    cond (code == GIVE_UP) (Some Dead)
+    (cond (is_narrow a den total) (Some Narrow)
+    (cond (n == a.depth) (Some Depth) None))
+
+abbrev pub onward_to : Option ℕ → Onward
+onward_to None = Ends Unplaced
+onward_to (Some id) = Goes id
+
+abbrev pub onward_by : Option Drawn → Onward
+onward_by None = Ends Depth
+onward_by (Some d) = onward_to d.id
+
+abbrev pub onward_from : Option TrialEnd → Option Drawn → Onward
+onward_from (Some e) d = Ends e
+onward_from None d = onward_by d
+
+abbrev pub onward : Aim → ℕ → Turn → Onward
+onward a n t = onward_from (stop_at a n t.code t.den t.total) t.drawn
+
+pub record IsDrawn (r : ℕ) (steps : List Step) (total : ℕ) (d : Drawn) : Type 0 where
+  pub rest : d.rest ≡ r % total
+  pub index : IsFirstAbove (spreads steps) d.rest d.index
+  pub to : (s : Step) × (slice_get steps d.index ≡ Some s) × (d.id ≡ s.id)
+
+abbrev pub IsDraw : Option TrialEnd → ℕ → List Step → ℕ → Option Drawn → Type 0
+IsDraw (Some e) r steps total drawn = drawn ≡ None
+IsDraw None r steps total drawn = (d : Drawn) × (drawn ≡ Some d) × IsDrawn r steps total d
+
+module _ {S : Type 0} (later : S → S → Type 0) (last : S → Last) (told : Told S) (draw : ℕ → ℕ)
+    (a : Aim) where
+  -- the code, the denominator and the choices are those of the backup, and turn n takes draw n
+  pub record IsTurn (n : ℕ) (s u : S) (t : Turn) : Type 0 where
+    pub follows : later s u
+    pub exact : told.tells s ≡ true → (last u ≡ told.backed s t.id) × (u ≡ told.after s t.id)
+    pub choices : AreChoices (last u)
+    pub code : t.code ≡ (last u).code
+    pub den : t.den ≡ (last u).den
+    pub total : t.total ≡ sum (spreads (last u).steps)
+    pub drawn : IsDraw (stop_at a n t.code t.den t.total) (draw n) (last u).steps t.total t.drawn
+
+  abbrev pub Leads : Onward → (TrialEnd → Type 0) → (ℕ → Type 0) → Type 0
+  Leads (Ends e) stop go = stop e
+  Leads (Goes id) stop go = go id
+
+  abbrev pub AreTurns : List Turn → ℕ → ℕ → S → TrialEnd → S → Type 0
+  AreTurns [] n id s e z = ⊥
+  AreTurns (t ∷ ts) n id s e z =
+      (u : S) × (t.id ≡ id) × IsTurn (n + 1) s u t
+      × Leads (onward a (n + 1) t)
+      (λ e'. (ts ≡ []) × (e ≡ e') × (z ≡ u))
+      (λ id'. AreTurns ts (n + 1) id' u e z)

@@ -1,0 +1,32 @@
+//! How a trial ends.
+
+/// How a trial ended.
+#[derive(Clone, Copy, Debug, PartialEq, Eq)]
+pub enum TrialEnd {
+    /// At a state where giving up is best.
+    Dead,
+    /// Where what may follow is narrow, or already at the starts.
+    Narrow,
+    /// At the greatest number of turns.
+    Depth,
+    /// Before a state that has no id.
+    Unplaced,
+}
+
+/// What a trial answers.
+#[derive(Clone, Copy, Debug, PartialEq, Eq)]
+pub struct Trial {
+    /// How it ended.
+    pub end: TrialEnd,
+    /// The number of its turns.
+    pub length: u32,
+}
+
+/// What follows a turn.
+#[derive(Clone, Copy, Debug, PartialEq, Eq)]
+pub enum Onward {
+    /// The trial ends.
+    Ends(TrialEnd),
+    /// It goes on at the state of this id.
+    Goes(u32),
+}
