@@ -1,2 +1,4 @@
 pub mod Spreads
 pub mod Walking
+pub mod Listing
+pub mod Answered

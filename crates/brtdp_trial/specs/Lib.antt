@@ -5,4 +5,6 @@ pub mod Paths
 pub mod Turns
 pub mod Trials
 pub mod Examples
-pub mod OneState
+pub mod Listed
+pub mod Following
+pub mod TwoStates

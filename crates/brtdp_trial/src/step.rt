@@ -8,6 +8,11 @@ pub const GIVE_UP: u16 = 65_535;
 
 const _: () = prove!(GIVE_UP == 65_535);
 
+/// The code by which a backup answers that the state is a goal.
+pub const AT_GOAL: u16 = 65_534;
+
+const _: () = prove!(AT_GOAL == 65_534);
+
 /// One start, or one choice of the action that a backup answered.
 #[derive(Clone, Copy, Debug, PartialEq, Eq)]
 pub struct Step {

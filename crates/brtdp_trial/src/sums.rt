@@ -7,8 +7,8 @@ ghost use Rattle.brtdp_trial.specs.Draws.{IsFirstAbove};
 ghost use Rattle.brtdp_trial.specs.declared.step.Step.{Step};
 
 use crate::bounds::Bounds;
-use crate::starts::Starts;
 use crate::step::Step;
+use crate::steps::Steps;
 
 /// A list of steps that is read one step at a time.
 pub(crate) trait Listed {
@@ -19,7 +19,7 @@ pub(crate) trait Listed {
         ensures { slice_get (list self.now) index ≡ Some result };
 }
 
-impl Listed for Starts {
+impl Listed for Steps {
     ghost list = { λ s. s };
 
     fn at(&self, index: u32) -> Step {

@@ -1,121 +1,87 @@
-//! Trials over one state that tells its numbers, and draws from outside.
+//! Trials over two listed states, and draws from outside.
 
-ghost use Rattle.std.specs.Prelude.{◌≡◌, ◌∷◌, [], true, refl};
-ghost use Rattle.std.proofs.Common.{subst, sym};
-ghost use Rattle.brtdp_trial.specs.OneState.{last_of, starts_of, HasRange};
+ghost use Rattle.brtdp_trial.specs.TwoStates.{AreInRange};
 
 use crate::draws::Draws;
-use crate::{Backed, Bounds, GIVE_UP, Path, Run, Step, Trial, TrialEnd, trial};
+use crate::*;
 use std::alloc::{AllocError, Global};
 use std::test::Fail;
 
-/// One start of weight 1 with the interval from 0 to `upper`. A backup answers `code`, and where `choice` is
-/// given one choice that leads to a state without id, whose interval goes from 0 to that.
-#[derive(Drop)]
-struct OneState {
-    upper: u64,
-    code: u16,
-    choice: Option<u64>,
-    ghost fits: { HasRange upper choice },
+/// A start whose one action leads at this cost to a state that has no id. Giving up costs 8.
+fn two_states(alloc: Global, cost: u64, upper: u64, next: u64) -> Result<ListedBounds, AllocError>
+    requires { AreInRange cost upper next }
+{
+    let way = Outcome {
+        weight: 1,
+        cost,
+        next: 1,
+    };
+    let action = ListedAction {
+        outcomes: List::from_vec(Vec::from_array(alloc, [way])?),
+        den: 1,
+    };
+    let first = ListedState {
+        placed: true,
+        goal: false,
+        actions: List::from_vec(Vec::from_array(alloc, [action])?),
+    };
+    let second = ListedState {
+        placed: false,
+        goal: false,
+        actions: List::from_vec(Vec::new(alloc)),
+    };
+    let start = ListedStart {
+        weight: 1,
+        state: 0,
+    };
+    let upper = Interval { lower: 0, upper };
+    let next = Interval {
+        lower: 0,
+        upper: next,
+    };
+    let starts = List::from_vec(Vec::from_array(alloc, [start])?);
+    let states = List::from_vec(Vec::from_array(alloc, [first, second])?);
+    let numbers = List::from_vec(Vec::from_array(alloc, [upper, next])?);
+    Ok(ListedBounds::new(8, starts, states, numbers))
 }
 
-impl Bounds for OneState {
-    ghost knows = { λ s id. id ≡ 0 };
-
-    ghost later = { λ x y. y ≡ x };
-
-    ghost weights = { λ s. 1 ∷ [] };
-
-    ghost last = { λ s. last_of s.code s.choice };
-
-    ghost told = { record {
-      tells = λ s. true;
-      starts = λ s. starts_of s.upper;
-      backed = λ s id. last_of s.code s.choice;
-      after = λ s id. s;
-    } };
-
-    fn start_count(&self) -> u32 {
-        1
-    }
-
-    fn start(&mut self, index: u32) -> Step {
-        Step {
-            weight: 1,
-            id: Some(0),
-            lower: 0,
-            upper: self.upper,
-        }
-    }
-
-    fn backup(&mut self, id: u32) -> Backed {
-        Backed {
-            code: self.code,
-            den: 1,
-            count: if self.choice.is_some() { 1 } else { 0 },
-        }
-    }
-
-    fn step_of(&self, index: u32) -> Step {
-        Step {
-            weight: 1,
-            id: None,
-            lower: 0,
-            upper: self.choice.unwrap_or(0),
-        }
-    }
-
-    ghost refl = { λ x. refl };
-
-    ghost trans = { λ x y z a b. subst (λ w. w ≡ x) (sym b) a };
-
-    ghost known_stays = { λ x y id a k. k };
-
-    ghost weights_stay = { λ x y a. refl };
-}
-
-/// What the trial 0 of seed 1 with a tau of 10 answers.
+/// What trial 0 of seed 1 with a tau of 10 answers, and the interval of the start after it.
 fn ended(
     alloc: Global,
-    upper: u64,
-    code: u16,
-    choice: Option<u64>,
+    bounds: ListedBounds,
     depth: u32,
-) -> Result<Option<Trial>, AllocError>
-    requires { HasRange upper choice }
-{
+) -> Result<Option<(Trial, Option<Interval>)>, AllocError> {
     if depth == 0 {
         return Ok(None);
     }
+    let mut bounds = bounds;
     let mut path = Path::make(alloc, depth)?;
-    let mut bounds = OneState {
-        upper,
-        code,
-        choice,
-    };
-    Ok(Some(trial(&mut bounds, 0, 1, depth, 10, &mut path)))
+    let answer = trial(&mut bounds, 0, 1, depth, 10, &mut path);
+    Ok(Some((answer, bounds.interval(0))))
+}
+
+/// What `ended` is to answer.
+fn answer(end: TrialEnd, length: u32, lower: u64, upper: u64) -> Option<(Trial, Option<Interval>)> {
+    Some((Trial { end, length }, Some(Interval { lower, upper })))
 }
 
 #[test]
 fn trials_end_where_their_choices_say(rt: HostRuntime) -> Result<(), Fail> {
     let alloc = rt.alloc();
-    let answer = |end: TrialEnd, length: u32| Some(Trial { end, length });
-    // the start is closed, and then where it is open one gives up
-    assert_eq!(rt; ended(alloc, 0, 0, None, 5)?, answer(TrialEnd::Narrow, 0));
-    assert_eq!(rt;
-        ended(alloc, 8, GIVE_UP, None, 5)?,
-        answer(TrialEnd::Dead, 1)
-    );
-    // an open choice, at the greatest depth too, and a closed one
-    assert_eq!(rt;
-        ended(alloc, 8, 0, Some(8), 5)?,
-        answer(TrialEnd::Unplaced, 1)
-    );
-    assert_eq!(rt; ended(alloc, 8, 0, Some(8), 1)?, answer(TrialEnd::Depth, 1));
-    assert_eq!(rt;
-        ended(alloc, 8, 0, Some(0), 5)?,
-        answer(TrialEnd::Narrow, 1)
-    );
+    // the start is closed
+    let closed = two_states(alloc, 1, 0, 0)?;
+    assert_eq!(rt; ended(alloc, closed, 5)?, answer(TrialEnd::Narrow, 0, 0, 0));
+    // no action costs less than giving up
+    let dear = two_states(alloc, 8, 8, 8)?;
+    assert_eq!(rt; ended(alloc, dear, 5)?, answer(TrialEnd::Dead, 1, 8, 8));
+    // what follows is open, at the greatest depth too
+    let open = two_states(alloc, 1, 8, 8)?;
+    assert_eq!(rt; ended(alloc, open, 5)?, answer(TrialEnd::Unplaced, 1, 1, 8));
+    let deep = two_states(alloc, 1, 8, 8)?;
+    assert_eq!(rt; ended(alloc, deep, 1)?, answer(TrialEnd::Depth, 1, 1, 8));
+    // what follows is closed
+    let near = two_states(alloc, 1, 8, 0)?;
+    assert_eq!(rt; ended(alloc, near, 5)?, answer(TrialEnd::Narrow, 1, 1, 1));
     Ok(())
 }
 
@@ -124,11 +90,7 @@ fn a_path_shows_its_run(rt: HostRuntime) -> Result<(), Fail> {
     let alloc = rt.alloc();
     let mut path = Path::make(alloc, 3)?;
     assert!(rt; path.run() == None && path.turns().is_empty());
-    let mut bounds = OneState {
-        upper: 8,
-        code: 0,
-        choice: Some(8),
-    };
+    let mut bounds = two_states(alloc, 1, 8, 8)?;
     trial(&mut bounds, 4, 1, 3, 10, &mut path);
     trial(&mut bounds, 5, 1, 3, 10, &mut path);
     trial(&mut bounds, 6, 1, 3, 10, &mut path);
@@ -138,8 +100,9 @@ fn a_path_shows_its_run(rt: HostRuntime) -> Result<(), Fail> {
         first: 4,
         last: 6,
     };
-    assert!(rt; path.run() == Some(run) && path.start().total == 8);
-    assert!(rt; path.turns().len() == 1);
+    assert!(rt; path.run() == Some(run) && path.turns().len() == 1);
+    // the interval from 1 to 8
+    assert_eq!(rt; path.start().total, 7);
     Ok(())
 }
 

@@ -15,7 +15,7 @@ use crate::draws::Draws;
 use crate::ends::{Onward, Trial, TrialEnd};
 use crate::path::Path;
 use crate::start_draw::{StartDraw, StartDrawn};
-use crate::starts::Starts;
+use crate::steps::Steps;
 use crate::sums::{first_above, total_of};
 use crate::turns::{onward_at, take_turn};
 
@@ -56,7 +56,7 @@ pub fn trial<B: Bounds>(
 }
 
 /// Reads each start once.
-fn read_starts<B: Bounds>(bounds: &mut B) -> Starts
+fn read_starts<B: Bounds>(bounds: &mut B) -> Steps
     ensures later { B.later bounds.old bounds.new }
     ensures weights { weights_of result ≡ B.weights bounds.old }
     ensures whole { sum (weights_of result) ≤ 10 ^ 18 }
@@ -68,7 +68,7 @@ fn read_starts<B: Bounds>(bounds: &mut B) -> Starts
         → (result ≡ B.told.starts bounds.old) × (bounds.new ≡ bounds.old) }
 {
     let count = bounds.start_count();
-    let mut starts = Starts::new();
+    let mut starts = Steps::new();
     for i in 0..count {
         let step = bounds.start(i);
         starts.push(step);
@@ -77,7 +77,7 @@ fn read_starts<B: Bounds>(bounds: &mut B) -> Starts
 }
 
 /// Draws a start, where one of them is wide.
-fn draw_start(starts: &Starts, draws: &mut Draws) -> StartDraw
+fn draw_start(starts: &Steps, draws: &mut Draws) -> StartDraw
     requires first { draws.old.next ≡ 0 }
     requires intervals { All IsInterval starts.now }
     requires whole { sum (weights_of starts.now) ≤ 10 ^ 18 }
@@ -104,7 +104,7 @@ fn draw_start(starts: &Starts, draws: &mut Draws) -> StartDraw
 fn from_start<B: Bounds>(
     bounds: &mut B,
     draws: &mut Draws,
-    starts: &Starts,
+    starts: &Steps,
     start: StartDraw,
     tau: u32,
     depth: u32,

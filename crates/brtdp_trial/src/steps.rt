@@ -1,4 +1,4 @@
-//! The starts as one trial read them: two readings of a shared number may differ, so each is read once.
+//! Steps as they were read: two readings of a shared number may differ, so each is read once.
 
 ghost use Rattle.std.specs.Prelude.{◌≡◌, ◌<◌, Some, [], ◌∷◌, ◌++◌, length};
 ghost use Rattle.std.specs.List.{slice_get};
@@ -6,14 +6,14 @@ ghost use Rattle.std.specs.List.{slice_get};
 use crate::step::Step;
 use std::marker::Model;
 
-/// At most 64 starts. Contracts see the list of them.
+/// At most 64 steps. Contracts see the list of them.
 #[derive(Drop)]
-pub(crate) struct Starts {
+pub(crate) struct Steps {
     slots: [Step; 64],
     count: usize,
 }
 
-impl Model for Starts {
+impl Model for Steps {
     ghost use Rattle.std.specs.Prelude.{◌≤◌, List, take};
     ghost use Rattle.brtdp_trial.specs.declared.step.Step.{Step};
 
@@ -24,12 +24,12 @@ impl Model for Starts {
     ghost invariant = { λ s. s.count ≤ 64 };
 }
 
-impl Starts {
-    /// No start.
+impl Steps {
+    /// No step.
     pub(crate) fn new() -> Self
         ensures { result ≡ [] }
     {
-        Starts {
+        Steps {
             slots: [Step::NONE; 64],
             count: 0,
         }
@@ -42,7 +42,7 @@ impl Starts {
         self.slots[..self.count].len() as u32
     }
 
-    /// One start more.
+    /// One step more.
     pub(crate) fn push(&mut self, step: Step)
         requires { length self.old < 64 }
         ensures { self.new ≡ self.old ++ step ∷ [] }
@@ -51,7 +51,7 @@ impl Starts {
         self.count += 1;
     }
 
-    /// One start.
+    /// One step.
     pub(crate) fn get(&self, index: u32) -> Step
         requires { index < length self.now }
         ensures { slice_get self.now index ≡ Some result }
