@@ -3,3 +3,4 @@ pub mod Naming
 pub mod Facts
 pub mod Known
 pub mod Made
+pub mod Mass

@@ -1,0 +1,3 @@
+pub mod RowSteps
+pub mod Valuing
+pub mod BindSteps

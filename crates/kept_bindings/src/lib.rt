@@ -1,0 +1,11 @@
+//! The instances of actions that are kept when a task is grounded: those whose precondition is not known
+//! to be false and whose function terms have values.
+#![tactic(auto)]
+
+mod binding;
+mod rows;
+mod terms;
+mod valued;
+
+pub use binding::kept_bindings;
+pub use rows::Rows;
