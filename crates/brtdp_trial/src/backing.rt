@@ -12,10 +12,13 @@ use crate::steps::Steps;
 /// Which numbers are read.
 #[derive(Clone, Copy, Debug, PartialEq, Eq)]
 pub enum Side {
+    /// The lower ones.
     Lower,
+    /// The upper ones.
     Upper,
 }
 
+/// One number of an interval.
 fn number(side: Side, interval: Interval) -> u64
     requires { IsRange interval }
     ensures value { result ≡ number_of side interval }

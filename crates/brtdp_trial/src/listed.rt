@@ -1,11 +1,13 @@
-//! Listed states with their actions.
+//! Listed states with their actions: the types of one form, of which each holds the next.
 
 use plain_list::List;
 
 /// The lower and the upper number of a state, in micro-units.
 #[derive(Clone, Copy, Debug, PartialEq, Eq)]
 pub struct Interval {
+    /// The lower number.
     pub lower: u64,
+    /// The upper number.
     pub upper: u64,
 }
 

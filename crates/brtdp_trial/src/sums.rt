@@ -11,7 +11,7 @@ use crate::step::Step;
 use crate::steps::Steps;
 
 /// A list of steps that is read one step at a time.
-pub(crate) trait Listed {
+pub(crate) trait HasSteps {
     ghost list: { Self → List Step };
 
     fn at(&self, index: u32) -> Step
@@ -19,7 +19,7 @@ pub(crate) trait Listed {
         ensures { slice_get (list self.now) index ≡ Some result };
 }
 
-impl Listed for Steps {
+impl HasSteps for Steps {
     ghost list = { λ s. s };
 
     fn at(&self, index: u32) -> Step {
@@ -33,7 +33,7 @@ pub(crate) struct Choices<'a, B> {
     pub(crate) bounds: &'a B,
 }
 
-impl<'a, B: Bounds> Listed for Choices<'a, B> {
+impl<'a, B: Bounds> HasSteps for Choices<'a, B> {
     ghost list = { λ c. (B.last c.bounds.now).steps };
 
     fn at(&self, index: u32) -> Step {
@@ -42,7 +42,7 @@ impl<'a, B: Bounds> Listed for Choices<'a, B> {
 }
 
 /// The sum of weight times width over the steps.
-pub(crate) fn total_of<L: Listed>(steps: &L, count: u32) -> u128
+pub(crate) fn total_of<L: HasSteps>(steps: &L, count: u32) -> u128
     requires count { count ≡ length (L.list steps.now) }
     requires intervals { All IsInterval (L.list steps.now) }
     requires whole { sum (weights_of (L.list steps.now)) ≤ 10 ^ 18 }
@@ -57,7 +57,7 @@ pub(crate) fn total_of<L: Listed>(steps: &L, count: u32) -> u128
 }
 
 /// The first place whose running sum is above `rest`.
-pub(crate) fn first_above<L: Listed>(steps: &L, rest: u128) -> u32
+pub(crate) fn first_above<L: HasSteps>(steps: &L, rest: u128) -> u32
     requires intervals { All IsInterval (L.list steps.now) }
     requires whole { sum (weights_of (L.list steps.now)) ≤ 10 ^ 18 }
     requires count { length (L.list steps.now) < 2 ^ 32 }
