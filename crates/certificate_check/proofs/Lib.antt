@@ -1,3 +1,10 @@
-pub mod Totals
-pub mod Open
-pub mod Rows
+pub mod Acts
+pub mod Arena
+pub mod Distinct
+pub mod Ending
+pub mod Rising
+pub mod RowVerdict
+pub mod Sound
+pub mod SureCoin
+pub mod Table
+pub mod Verdicts

@@ -1,1 +1,6 @@
-pub mod Faults
+pub mod Claims
+pub mod Verdicts
+pub mod GroundRows
+pub mod Pass
+pub mod Laws
+pub mod Examples

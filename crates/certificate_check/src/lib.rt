@@ -1,23 +1,22 @@
 //! Whether certificates of ground problems are balanced.
 //!
-//! Here stands the test of one row: its act, its lower and its upper value, against readings of the next
-//! states.
+//! A certificate's tables are turned into numbers of the problem once, and its rows into packed states in
+//! one arena, with a hash table from states to values. Then one pass tests each row, and takes no memory.
 #![tactic(auto)]
 
-mod act;
-mod claim;
-mod ends;
-mod fault;
-mod reading;
-mod row;
-mod sums;
+mod checker;
+mod ground_rows;
+mod laws;
+mod numbers;
+mod packing;
+mod readings;
+mod row_table;
+mod rows;
+mod verdict;
 
-pub use act::Act;
-pub use claim::Claim;
-pub use ends::is_interval;
-pub use fault::Fault;
-pub use reading::Reading;
-pub use row::{Scratch, row_fault};
+pub use checker::check;
+pub use laws::check_laws;
+pub use verdict::Verdict;
 
 #[cfg(test)]
 mod tests;

@@ -1,0 +1,20 @@
+-- The parts are made of the certificate's.
+use Rattle.std.proofs.Common.{◌≡◌, map, length, ap, ◌∙◌}
+use Rattle.std.specs.List.{flat_map}
+use Rattle.ground_step.specs.Names.{place_of, action_names}
+use Rattle.certificate_check.specs.Claims.{atom_numbers, is_known, state_of_row}
+use Rattle.certificate_check.proofs.ground_rows.GroundRows.new.Goals as goal
+
+pub invariant_of-result : goal.invariant_of-result
+invariant_of-result c =
+    let g = c.args.problem.now in
+    let numbers : c.as_slice.result.now ≡ atom_numbers g c.args.certificate.now
+    = c.as_slice.ensures.value ∙ c.in_ok-numbers.ensures ∙ ap (map (place_of g.atoms)) c.atoms.ensures.value in
+    let width = c.state_width-width.ensures.width in
+    record {
+      width_is = width;
+      words_are = c.in_ok-words.ensures.words
+          ∙ (λ j. flat_map (state_of_row (numbers j) (width j)) (c.rows.ensures.value j));
+      known_are = c.in_ok-words.ensures.known ∙ (λ j. map (is_known (numbers j)) (c.rows.ensures.value j));
+      codes_are = c.in_ok-actions.ensures ∙ ap (map (place_of (action_names g))) c.acts.ensures.value;
+    }

@@ -1,0 +1,10 @@
+use Rattle.std.proofs.Common.{◌≡◌}
+use Rattle.certificate_check.specs.Pass.{HasRoomFor}
+use Rattle.certificate_check.specs.Verdicts.{AreSoundBefore}
+use Rattle.certificate_check.proofs.rows.rows_verdict.Given as goal
+
+abbrev pub invariant-loop-place : goal.invariant-loop-place
+invariant-loop-place g l = record {
+  sound : AreSoundBefore l.rows.problem l.rows.certificate (g.L.Reading.value l.low) (g.H.Reading.value l.high) l.place;
+  room : HasRoomFor l.rows.problem l.room;
+}

@@ -1,0 +1,95 @@
+//! The values of states, by hash.
+
+ghost use Rattle.std.specs.Prelude.{◌+◌, ◌<◌, length, OnOk};
+ghost use Rattle.certificate_check.specs.GroundRows.{HasValuesFrom, by_state};
+
+use crate::ground_rows::GroundRows;
+use std::alloc::{AllocError, Global};
+use std::collections::HashMap;
+use std::marker::Model;
+
+/// The lower and the upper value of a row.
+#[derive(Clone, Copy, Drop)]
+pub(crate) struct Values {
+    pub lower: u64,
+    pub upper: u64,
+}
+
+/// A hash table from the states of a certificate's rows to their values. Contracts see the problem and the
+/// certificate.
+#[derive(Drop)]
+pub(crate) struct RowTable<'a> {
+    rows: &'a GroundRows<'a>,
+    entries: HashMap<&'a [u64], Values>,
+}
+
+impl<'a> Model for RowTable<'a> {
+    ghost use Rattle.std.specs.Coded.{codes};
+    ghost use Rattle.ground_model.specs.contracts.condition.GroundCondition as of_conditions;
+    ghost use Rattle.certificate_check.specs.GroundRows.{Claimed, HasValuesFrom, by_state};
+
+    ghost Value = { Claimed };
+
+    ghost coded = { Prim.hlevel (codes, of_conditions.the_row.coded) };
+
+    ghost view = { λ t. t.rows.now };
+
+    ghost invariant = { λ t. HasValuesFrom t.rows.now 0 (by_state t.entries.entries (λ k. k.now)) };
+}
+
+/// Puts the values of the row in this place beside those of the rows behind it, if the problem has its
+/// atoms.
+fn put_row<'a>(
+    rows: &'a GroundRows<'a>,
+    place: usize,
+    entries: &mut HashMap<&'a [u64], Values>,
+) -> Result<(), AllocError>
+    requires { place < length rows.now.certificate.rows }
+    ensures { OnOk result (HasValuesFrom rows.now (place + 1) (by_state entries.old.entries (λ k. k.now))
+        → HasValuesFrom rows.now place (by_state entries.new.entries (λ k. k.now))) }
+{
+    let row = rows.certificate().rows().row(place);
+    if !rows.knows(place) {
+        return Ok(());
+    }
+    let values = Values {
+        lower: row.lower,
+        upper: row.upper,
+    };
+    match entries.insert(rows.state(place), values) {
+        Ok(_) => Ok(()),
+        Err(_) => Err(AllocError),
+    }
+}
+
+impl<'a> RowTable<'a> {
+    ghost use Rattle.std.specs.Prelude.{◌≡◌, IfOk};
+    ghost use Rattle.certificate_check.specs.GroundRows.{values_in};
+
+    /// The table of these rows. It is refused for want of memory alone.
+    pub(crate) fn new(alloc: Global, rows: &'a GroundRows<'a>) -> Result<Self, AllocError>
+        ensures { IfOk result (λ table. table ≡ rows.now) }
+    {
+        let mut place = rows.certificate().rows().len();
+        let mut entries = HashMap::with_capacity(alloc, place)?;
+        while place > 0 {
+            place -= 1;
+            put_row(rows, place, &mut entries)?;
+        }
+        Ok(RowTable { rows, entries })
+    }
+
+    /// The rows.
+    pub(crate) fn rows(&self) -> &'a GroundRows<'a>
+        ensures { result.now ≡ self.now }
+    {
+        self.rows
+    }
+
+    /// The values of the row of a state, if it has one.
+    pub(crate) fn values(&self, state: &[u64]) -> Option<Values>
+        ensures { result ≡ values_in self.now state.now }
+    {
+        self.entries.get(state).copied()
+    }
+}

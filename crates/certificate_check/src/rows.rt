@@ -1,0 +1,118 @@
+//! The pass over the rows.
+
+ghost use Rattle.std.specs.Prelude.{◌≡◌, ◌<◌, length, IfOk};
+ghost use Rattle.certificate_check.specs.Pass.{HasRoomFor, TellsOfRow, TellsOfRows};
+ghost use Rattle.certificate_check.specs.Verdicts.{verdict_of};
+
+use crate::ground_rows::GroundRows;
+use crate::packing::state_width;
+use crate::verdict::Verdict;
+use ground_model::{GroundProblem, List, State};
+use open_actions::{OpenActions, OpenCodes};
+use row_check::{Claim, Fault, Reading, Scratch, row_fault};
+use std::alloc::{AllocError, Global};
+
+/// Room for the pass: the state of a row, and what its test needs.
+#[derive(Drop)]
+pub(crate) struct Room {
+    pub state: State,
+    pub scratch: Scratch,
+}
+
+/// A state of so many words.
+fn blank(alloc: Global, width: usize) -> Result<State, AllocError>
+    ensures { IfOk result (λ state. length state ≡ width) }
+{
+    let words = vec![in alloc; 0u64; width]?;
+    Ok(State::from_words(List::from_vec(words)))
+}
+
+impl Room {
+    /// Room for the states and actions of a problem. It is refused for want of memory alone.
+    pub(crate) fn new(alloc: Global, problem: &GroundProblem) -> Result<Self, AllocError>
+        ensures { IfOk result (HasRoomFor problem.now) }
+    {
+        let width = state_width(problem);
+        let state = blank(alloc, width)?;
+        let next = blank(alloc, width)?;
+        let codes = OpenCodes::new(alloc, problem)?;
+        Ok(Room {
+            state,
+            scratch: Scratch { next, codes },
+        })
+    }
+}
+
+/// Writes words into a state of as many.
+fn copy_words(words: &[u64], into: &mut State)
+    requires { length into.old ≡ length words.now }
+    ensures { into.new ≡ words.now }
+{
+    for (place, word) in words.iter().enumerate() {
+        into.set_word(place, *word);
+    }
+}
+
+/// What a fault says of the row with this number.
+fn verdict_of(fault: Fault, row: u32) -> Verdict
+    ensures { result ≡ verdict_of row fault }
+{
+    match fault {
+        Fault::Act => Verdict::Act { row },
+        Fault::Lower => Verdict::Lower { row },
+        Fault::Upper => Verdict::Upper { row },
+    }
+}
+
+/// What is wrong with the row in this place, if anything.
+fn row_verdict<L: Reading, H: Reading>(
+    index: &OpenActions<'_>,
+    low: &L,
+    high: &H,
+    rows: &GroundRows<'_>,
+    place: usize,
+    room: &mut Room,
+) -> Option<Verdict>
+    requires problem { index.now ≡ rows.now.problem }
+    requires place { place < length rows.now.certificate.rows }
+    requires room { HasRoomFor rows.now.problem room.old }
+    ensures verdict { TellsOfRow rows.now (L.value low.now) (H.value high.now) place result }
+    ensures room { HasRoomFor rows.now.problem room.new }
+{
+    let claimed = rows.certificate().rows().row(place);
+    let row = place as u32 + 1;
+    if !rows.knows(place) {
+        return Some(Verdict::UnknownAtom { row });
+    }
+    let Some(act) = rows.act(claimed.act) else {
+        return Some(Verdict::Act { row });
+    };
+    copy_words(rows.state(place), &mut room.state);
+    let claim = Claim {
+        lower: claimed.lower,
+        upper: claimed.upper,
+        act,
+    };
+    let fault = row_fault(index, low, high, &room.state, claim, &mut room.scratch)?;
+    Some(verdict_of(fault, row))
+}
+
+/// What is wrong with the first row that is not right, if there is one.
+pub(crate) fn rows_verdict<L: Reading, H: Reading>(
+    index: &OpenActions<'_>,
+    low: &L,
+    high: &H,
+    rows: &GroundRows<'_>,
+    room: &mut Room,
+) -> Option<Verdict>
+    requires problem { index.now ≡ rows.now.problem }
+    requires room { HasRoomFor rows.now.problem room.old }
+    ensures { TellsOfRows rows.now (L.value low.now) (H.value high.now) result }
+{
+    for place in 0..rows.certificate().rows().len() {
+        if let Some(verdict) = row_verdict(index, low, high, rows, place, room) {
+            return Some(verdict);
+        }
+    }
+    None
+}
