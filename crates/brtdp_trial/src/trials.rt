@@ -38,6 +38,7 @@ pub fn trial<B: Bounds>(
     ensures run { path.new.run ≡ Some (next_run path.old.run number seed tau) }
     ensures room { path.new.room ≡ path.old.room }
     ensures length { result.length ≡ length path.new.turns }
+    ensures few { result.length ≤ depth }
     ensures known { All (λ t. B.knows bounds.new t.id) path.new.turns }
     ensures trial { let Is = IsTrial B.later B.weights B.last B.told (draw_of seed number) tau depth
         in Is bounds.old path.new result.end bounds.new }
