@@ -1,0 +1,13 @@
+//! The texts of the ground atoms that effects and `:init` name, in bytewise order, each once: the atoms of
+//! a ground problem and its facts.
+#![tactic(auto)]
+
+mod laws;
+mod literals;
+mod numbering;
+mod texts;
+
+pub use laws::text_laws;
+pub use literals::add_literals;
+pub use numbering::{name_set, texts_of_set};
+pub use texts::{add_chances, fact_texts};

@@ -1,0 +1,84 @@
+//! The atoms of `:init`.
+
+ghost use Rattle.std.specs.Prelude.{◌≡◌, [], flat_map, IfOk, OnOk};
+ghost use Rattle.atom_texts.specs.Texts.{with_texts, atom_texts, init_branch_texts};
+ghost use Rattle.atom_texts.specs.Texts.{chance_texts, fact_texts};
+
+use ground_names::{Scope, atom_text};
+use plain_list::Text;
+use ppddl_model::{Atom, InitBranch, InitItem};
+use std::alloc::{AllocError, Global};
+use std::collections::BTreeSet;
+
+/// Puts in the texts of atoms without variables.
+fn add_atoms(alloc: Global, texts: &mut BTreeSet<Text>, atoms: &[Atom]) -> Result<(), AllocError>
+    ensures { OnOk result (texts.new.keys ≡ with_texts texts.old.keys (atom_texts atoms.now)) }
+{
+    for atom in atoms {
+        let text = atom_text(alloc, &Scope::Empty, atom)?;
+        texts.insert(Text::from_vec(text))?;
+    }
+    Ok(())
+}
+
+/// Puts in those of the branches of an item of `:init`.
+fn add_branches(
+    alloc: Global,
+    texts: &mut BTreeSet<Text>,
+    branches: &[InitBranch],
+) -> Result<(), AllocError>
+    ensures { OnOk result (texts.new.keys
+        ≡ with_texts texts.old.keys (flat_map init_branch_texts branches.now)) }
+{
+    for branch in branches {
+        add_atoms(alloc, texts, branch.atoms.as_slice())?;
+    }
+    Ok(())
+}
+
+/// Puts in the texts of the atoms that an item of `:init` may make true by chance.
+fn add_chance(alloc: Global, texts: &mut BTreeSet<Text>, item: &InitItem) -> Result<(), AllocError>
+    ensures { OnOk result (texts.new.keys ≡ with_texts texts.old.keys (chance_texts item.now)) }
+{
+    match item {
+        InitItem::Chance(branches) => add_branches(alloc, texts, branches.as_slice()),
+        InitItem::Fact(_) | InitItem::Value(_) => Ok(()),
+    }
+}
+
+/// Puts in those of all items of `:init`.
+pub fn add_chances(
+    alloc: Global,
+    texts: &mut BTreeSet<Text>,
+    items: &[InitItem],
+) -> Result<(), AllocError>
+    ensures { OnOk result (texts.new.keys
+        ≡ with_texts texts.old.keys (flat_map chance_texts items.now)) }
+{
+    for item in items {
+        add_chance(alloc, texts, item)?;
+    }
+    Ok(())
+}
+
+/// Puts in the text of the fact that an item of `:init` names, if it names one.
+fn add_fact(alloc: Global, texts: &mut BTreeSet<Text>, item: &InitItem) -> Result<(), AllocError>
+    ensures { OnOk result (texts.new.keys ≡ with_texts texts.old.keys (fact_texts item.now)) }
+{
+    if let InitItem::Fact(atom) = item {
+        let text = atom_text(alloc, &Scope::Empty, atom)?;
+        texts.insert(Text::from_vec(text))?;
+    }
+    Ok(())
+}
+
+/// The texts of the facts of `:init`.
+pub fn fact_texts(alloc: Global, items: &[InitItem]) -> Result<BTreeSet<Text>, AllocError>
+    ensures { IfOk result (λ texts. texts.keys ≡ with_texts [] (flat_map fact_texts items.now)) }
+{
+    let mut texts = BTreeSet::new(alloc);
+    for item in items {
+        add_fact(alloc, &mut texts, item)?;
+    }
+    Ok(texts)
+}
