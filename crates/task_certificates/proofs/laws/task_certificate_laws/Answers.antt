@@ -1,0 +1,12 @@
+-- By the laws of ground problems that stand for tasks.
+use Rattle.task_certificates.proofs.Carried.{is_carried, balance_is_carried, task_is_enclosed}
+use Rattle.task_certificates.proofs.laws.task_certificate_laws.Goals as goal
+
+pub returns-clause-carried : goal.returns-clause-carried
+returns-clause-carried c = is_carried
+
+pub returns-clause-balance : goal.returns-clause-balance
+returns-clause-balance c = balance_is_carried
+
+pub returns-clause-encloses : goal.returns-clause-encloses
+returns-clause-encloses c = task_is_enclosed
