@@ -1,0 +1,5 @@
+pub mod Conditions
+pub mod Sets
+pub mod MergeSteps
+pub mod Piling
+pub mod MergedMaps

@@ -1,0 +1,51 @@
+//! Sets of atoms as rising lists.
+
+ghost use Rattle.std.specs.Prelude.{◌≡◌, ◌++◌, IfOk, OnOk};
+ghost use Rattle.std.specs.List.Sorted.{IsStrictlyIncreasing};
+ghost use Rattle.ground_model.specs.Choices.{is_member};
+ghost use Rattle.joint_choices.specs.Rising.{rising, less};
+
+use std::alloc::{AllocError, Global};
+
+/// Puts atoms into rising order, each once.
+pub(crate) fn make_rising(atoms: &mut Vec<u32>)
+    ensures { atoms.new.items ≡ rising atoms.old.items }
+{
+    atoms.sort_unstable();
+    atoms.dedup();
+}
+
+/// The atoms of both lists.
+pub(crate) fn united(alloc: Global, first: &[u32], second: &[u32]) -> Result<Vec<u32>, AllocError>
+    ensures { IfOk result (λ v. v.items ≡ rising (first.now ++ second.now)) }
+{
+    let mut atoms = Vec::from_slice(alloc, first)?;
+    atoms.extend_from_slice(second)?;
+    make_rising(&mut atoms);
+    Ok(atoms)
+}
+
+/// Whether an atom is in a rising list.
+fn is_in(atoms: &[u32], atom: u32) -> bool
+    requires { IsStrictlyIncreasing atoms.now }
+    ensures { result ≡ is_member atoms.now atom }
+{
+    match atoms.binary_search(&atom) {
+        Ok(_) => true,
+        Err(_) => false,
+    }
+}
+
+/// The atoms that are not in a rising list.
+pub(crate) fn less(alloc: Global, atoms: &[u32], gone: &[u32]) -> Result<Vec<u32>, AllocError>
+    requires { IsStrictlyIncreasing gone.now }
+    ensures { IfOk result (λ v. v.items ≡ less atoms.now gone.now) }
+{
+    let mut left = Vec::with_capacity(alloc, atoms.len())?;
+    for atom in atoms {
+        if !is_in(gone, *atom) {
+            left.push(*atom)?;
+        }
+    }
+    Ok(left)
+}

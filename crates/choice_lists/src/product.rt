@@ -1,0 +1,134 @@
+//! Products of lists of choices, one list after another.
+
+ghost use Rattle.std.specs.Prelude.{◌≡◌, ◌≤◌, ◌<◌, ◌∷◌, [], All, length, IfOk, IfErr, MatchResult};
+ghost use Rattle.ground_model.specs.declared.limits.TheConstants.{MOST_CHOICES};
+ghost use Rattle.joint_choices.specs.Joint.{idle, with_factor};
+ghost use Rattle.choice_lists.specs.declared.refusal.JointRefusal.TheVariants.{Memory};
+ghost use Rattle.choice_lists.specs.Piles.{Weighs};
+ghost use Rattle.choice_lists.specs.Refusals.{IsTooMany};
+
+use crate::draft::Draft;
+use crate::joining::{pile, settled};
+use crate::merging::multiply;
+use crate::refusal::JointRefusal;
+use std::alloc::{AllocError, Global};
+use std::marker::Model;
+
+/// A product of lists of choices. Contracts see the merged choices so far.
+///
+/// A list of one choice is put onto a pile, which takes no copy of the choices so far: the pile is
+/// settled and joined to each of them before the next list of several choices, and at the end.
+#[derive(Drop)]
+pub struct Product {
+    alloc: Global,
+    done: Vec<Draft>,
+    run: Option<Draft>,
+}
+
+impl Model for Product {
+    ghost use Rattle.std.specs.Prelude.{◌≤◌, List, length};
+    ghost use Rattle.std.specs.Coded.{codes};
+    ghost use Rattle.ground_model.specs.contracts.condition.GroundCondition as of_conditions;
+    ghost use Rattle.ground_model.specs.declared.action.Choice.{Choice};
+    ghost use Rattle.ground_model.specs.declared.limits.TheConstants.{MOST_CHOICES};
+    ghost use Rattle.choice_lists.specs.Piles.{made};
+
+    ghost Value = { List Choice };
+
+    ghost coded = { Prim.hlevel (codes, of_conditions.the_row.coded) };
+
+    ghost view = { λ p. made p.done.items p.run };
+
+    ghost invariant = { λ p. length p.done.items ≤ MOST_CHOICES };
+}
+
+/// The choice of a list of one, or the list.
+fn only(mut drafts: Vec<Draft>) -> Result<Draft, Vec<Draft>>
+    ensures { MatchResult result (λ d. drafts.items ≡ d ∷ []) (λ v. v.items ≡ drafts.items) }
+{
+    if drafts.len() != 1 {
+        return Err(drafts);
+    }
+    match drafts.pop() {
+        Some(draft) => Ok(draft),
+        None => Err(drafts),
+    }
+}
+
+impl Product {
+    /// The product of no lists: one choice that does nothing.
+    pub fn new(alloc: Global) -> Result<Product, AllocError>
+        ensures { IfOk result (λ p. p ≡ idle 1 ∷ []) }
+    {
+        let mut done = Vec::new(alloc);
+        done.push(Draft::idle(alloc, 1))?;
+        Ok(Product {
+            alloc,
+            done,
+            run: None,
+        })
+    }
+
+    /// The product with one more choice on the pile.
+    #[tactic(auto, using(crate::proofs::MergedMaps::short))]
+    fn absorb(self, more: Draft) -> Result<Product, AllocError>
+        requires { Weighs more }
+        ensures put { IfOk result (λ p. p ≡ with_factor self (more ∷ [])) }
+        ensures few { IfOk result (λ p. length p ≤ MOST_CHOICES) }
+    {
+        let Product { alloc, done, run } = self;
+        match run {
+            None => Ok(Product {
+                alloc,
+                done,
+                run: Some(more),
+            }),
+            Some(before) => {
+                let after = pile(before, more)?;
+                Ok(Product {
+                    alloc,
+                    done,
+                    run: Some(after),
+                })
+            }
+        }
+    }
+
+    /// The choices so far. It is refused for want of memory alone.
+    pub fn into_list(self) -> Result<Vec<Draft>, JointRefusal>
+        ensures list { IfOk result (λ v. v.items ≡ self) }
+        ensures refused { IfErr result (λ e. e ≡ Memory) }
+    {
+        let Product { alloc, done, run } = self;
+        match run {
+            None => Ok(done),
+            Some(pile) => {
+                let mut one = Vec::new(alloc);
+                one.push(settled(alloc, pile)?)?;
+                multiply(alloc, done.as_slice(), one.as_slice())
+            }
+        }
+    }
+
+    /// The product with one more list, whose choices have weights.
+    pub fn put(self, factor: Vec<Draft>) -> Result<Product, JointRefusal>
+        requires { All Weighs factor.items }
+        ensures put { IfOk result (λ p. p ≡ with_factor self factor.items) }
+        ensures few { IfOk result (λ p. length p ≤ MOST_CHOICES) }
+        ensures refused { IfErr result (λ e. IsTooMany e (with_factor self factor.items)) }
+    {
+        let alloc = self.alloc;
+        match only(factor) {
+            Ok(draft) => Ok(self.absorb(draft)?),
+            Err(several) => {
+                let before = self.into_list()?;
+                let done = multiply(alloc, before.as_slice(), several.as_slice())?;
+                Ok(Product {
+                    alloc,
+                    done,
+                    run: None,
+                })
+            }
+        }
+    }
+}

@@ -1,0 +1,31 @@
+use Rattle.std.proofs.Common.{◌≡◌, ◌+◌, ◌*◌, ◌++◌, map, length, drop}
+use Rattle.std.specs.Prelude.{flat_map}
+use Rattle.weighted.specs.Mean.{total}
+use Rattle.ppddl_model.specs.declared.tree.Condition.{Condition}
+use Rattle.ppddl_model.specs.Objects.{bindings}
+use Rattle.type_table.specs.Types.{object_at}
+use Rattle.joint_choices.specs.Numbering.{ground_condition}
+use Rattle.ground_names.specs.Scopes.{binding_of}
+use Rattle.ground_conditions.specs.Bindings.{world_of, numbering_of}
+use Rattle.ground_conditions.proofs.GroundSteps.{mass, of_object}
+use Rattle.ground_conditions.proofs.grounding.+grounding.Given as goal
+
+abbrev pub decreases-ground_condition : goal.decreases-ground_condition
+decreases-ground_condition l = 2 * mass l.condition.now
+
+abbrev pub decreases-ground_each : goal.decreases-ground_each
+decreases-ground_each l = 2 * total mass l.parts.now + 1
+
+abbrev pub decreases-ground_bound : goal.decreases-ground_bound
+decreases-ground_bound l = 2 * mass l.inner.now + length l.variables.now + 1
+
+abbrev pub invariant-ground_bound-loop-object : goal.invariant-ground_bound-loop-object
+invariant-ground_bound-loop-object l =
+    l.each.items ++ flat_map (λ o. of_object (world_of l.within) (numbering_of l.within) l.inner (drop 1 l.variables) l.first (binding_of l.scope)
+    (object_at l.within.table.now o)) (drop l.object-index l.object-items)
+    ≡ l.fn.done.items ++ map (ground_condition (world_of l.within) (numbering_of l.within) l.inner) (bindings (world_of l.within) l.variables (binding_of l.scope))
+
+abbrev pub invariant-ground_each-loop-part : goal.invariant-ground_each-loop-part
+invariant-ground_each-loop-part l =
+    l.each.items ++ map (λ (c : Condition). ground_condition (world_of l.within) (numbering_of l.within) c (binding_of l.scope)) (drop l.part-index l.parts)
+    ≡ map (λ (c : Condition). ground_condition (world_of l.within) (numbering_of l.within) c (binding_of l.scope)) l.parts
