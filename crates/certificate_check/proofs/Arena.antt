@@ -1,10 +1,9 @@
 -- Lists of equal length, one behind another.
-use Rattle.std.proofs.Common.{◌≡◌, ℕ, zero, suc, ◌+◌, ◌*◌, ◌<◌, List, [], ◌∷◌, ◌++◌, Some, length, take, drop, get_or, refl, sym, ap, subst, ◌∙◌, arith, length-append}
+use Rattle.std.proofs.Common.{◌≡◌, ℕ, zero, suc, ◌+◌, ◌*◌, ◌<◌, List, [], ◌∷◌, ◌++◌, Some, length, take, drop, refl, sym, ap, ◌∙◌, arith, length-append}
 use Rattle.std.specs.List.{flat_map, slice_get}
 use Rattle.std.proofs.lemmas.List.{drop-drop, take-append-le, take_all, take_more}
-use Rattle.std.proofs.lemmas.List.Concat.{flat_map-append}
 use Rattle.std.proofs.lemmas.Option.{get_or_from_slice_get, slice_get_within}
-use Rattle.std.proofs.Math.Seq.{take-length, drop-append_seam}
+use Rattle.std.proofs.Math.Seq.{drop-append_seam}
 
 module _ {X : Type 0} (f : X → List ℕ) (w : ℕ) (long : (x : X) → length (f x) ≡ w) where
   first_piece : (x : X) (rest : List ℕ) → take w (f x ++ rest) ≡ f x

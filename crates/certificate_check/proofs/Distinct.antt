@@ -1,12 +1,12 @@
 -- Rows that rise are of different states, as far as the problem has their atoms.
-use Rattle.std.proofs.Common.{◌≡◌, ◌≢◌, inl, inr, ℕ, ◌*◌, ◌<◌, Bool, true, false, cond, ◌&&◌, List, [], ◌∷◌, Option, Some, None, length, map, filter, get_or, refl, sym, ap, subst, ◌∙◌, arith}
-use Rattle.std.specs.Prelude.{Contains, All, AllPairs, IsTrue, is_some, nat_eq, nat_lt}
+use Rattle.std.proofs.Common.{◌≡◌, ◌≢◌, inl, inr, ℕ, ◌*◌, ◌<◌, true, false, cond, ◌&&◌, List, [], ◌∷◌, Option, Some, None, length, map, filter, get_or, refl, sym, ap, subst, ◌∙◌, arith}
+use Rattle.std.specs.Prelude.{Contains, All, IsTrue, is_some, nat_eq, nat_lt}
 use Rattle.std.specs.List.{AllByRecursion}
 use Rattle.std.specs.Ordering.{nat_cmp, is_lt}
 use Rattle.std.specs.declared.cmp.Ordering.TheVariants.{Less, Equal}
 use Rattle.std.specs.Cmp.{nat_eq_equiv}
 use Rattle.std.specs.Cmp.Lexicographic.{pointwise, slice_cmp, bytes_decides}
-use Rattle.std.proofs.lemmas.Bool.{cases_Bool, cases_lt, and_parts, lt-ltb, eqb-true, true≢false}
+use Rattle.std.proofs.lemmas.Bool.{cases_Bool, cases_lt, and_parts, lt-ltb, eqb-true}
 use Rattle.std.proofs.lemmas.Cmp.{tied_itself, nat_list_cmp_total}
 use Rattle.std.proofs.lemmas.List.{get_or-map, get_or_past, length-map}
 use Rattle.std.proofs.lemmas.List.Elements.{All-nil, All-cons}
@@ -23,13 +23,12 @@ use Rattle.decision_process.specs.Readings.{HasDistinctStates}
 use Rattle.ground_model.specs.Packed.{State, has_bit, words_for}
 use Rattle.ground_model.specs.Choices.{is_member}
 use Rattle.ground_model.specs.Ground.{Ground}
-use Rattle.ground_model.specs.Invariant.{IsGroundProblem}
 use Rattle.ground_model.proofs.Packed.{has_bit-packed}
 use Rattle.ground_model.proofs.Rising.{texts_differ}
 use Rattle.ground_step.specs.Atoms.{state_of}
 use Rattle.ground_step.specs.Names.{place_of}
 use Rattle.certificate_check.specs.Claims.{listed, number_at, numbers_of, are_known, atom_numbers, knows, row_state, row_of, rows_of}
-use Rattle.certificate_check.proofs.Rising.{less_is, Rising, rising, same_members}
+use Rattle.certificate_check.proofs.Rising.{less_is, rising, same_members}
 
 some_of : (o : Option ℕ) → is_some o ≡ true → (q : ℕ) × (o ≡ Some q)
 some_of None e = absurd cc

@@ -1,5 +1,4 @@
 -- What an accepted certificate says of the process of its problem.
-use Rattle.std.proofs.Common.{◌≡◌, ℕ}
 use Rattle.decision_process.proofs.Readings.{certificate_encloses}
 use Rattle.decision_process.proofs.Ending.{policy_ends}
 use Rattle.ground_model.specs.Packed.{same_state}

@@ -1,7 +1,6 @@
 -- Sound rows are balanced, and the other way round.
-use Rattle.std.proofs.Common.{◌≡◌, ◌≢◌, inl, inr, ℕ, ◌≤◌, ◌*◌, Bool, true, false, cond, List, [], ◌∷◌, Option, Some, None, length, refl, sym, ap, subst, ◌∙◌, arith}
-use Rattle.std.specs.Prelude.{Contains, IsTrue, is_some, ◌↔◌}
-use Rattle.std.specs.List.{slice_get}
+use Rattle.std.proofs.Common.{◌≡◌, ◌≢◌, inl, inr, ℕ, ◌≤◌, ◌*◌, true, false, cond, List, [], ◌∷◌, Option, Some, None, refl, sym, ap, subst, ◌∙◌}
+use Rattle.std.specs.Prelude.{Contains, IsTrue, is_some}
 use Rattle.std.specs.Cmp.Lexicographic.{bytes_decides}
 use Rattle.std.proofs.lemmas.Bool.{cases_Bool, true≢false}
 use Rattle.std.proofs.lemmas.Option.{slice_get-get_or, slice_get_within, get_or_from_slice_get}
@@ -12,7 +11,6 @@ use Rattle.certificate.specs.Content.{Content, IsCertificate}
 use Rattle.decision_process.specs.Backup.{action_value}
 use Rattle.decision_process.specs.Balanced.{IsBalancedAt}
 use Rattle.decision_process.specs.Following.{IsLowerFrom, IsUpperFrom}
-use Rattle.decision_process.specs.Process.{Process}
 use Rattle.decision_process.specs.Readings as readings
 use Rattle.decision_process.specs.Readings.{RowAct, AtGoal, HasDistinctStates, action_of, row_at, act, IsMarked, IsBalancedIn}
 use Rattle.decision_process.proofs.Readings.{row_is_read, rows_balance}

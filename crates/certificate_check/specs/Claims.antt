@@ -16,7 +16,7 @@
 --     ground_certificate g c      the certificate of these rows
 --     low_in, high_in g c s       the values of a state: 0 and the penalty without a row, 0 at a goal
 --     IsBalancedFor g c           the problem has the atoms and the actions of the rows, and their certificate is balanced
-use Rattle.std.specs.Prelude.{◌≡◌, ℕ, Option, Some, None, is_some, List, [], ◌∷◌, map, filter, get_or, length, Bool, IsTrue, Contains}
+use Rattle.std.specs.Prelude.{ℕ, Option, Some, None, is_some, List, [], ◌∷◌, map, filter, get_or, length, Bool, IsTrue, Contains}
 use Rattle.std.specs.List.{flat_map, list_all}
 use Rattle.certificate.specs.declared.act.Act as cert
 use Rattle.certificate.specs.declared.act.Act.TheVariants as acts

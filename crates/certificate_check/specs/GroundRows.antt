@@ -8,9 +8,9 @@
 --     values_at entries s       the values that a table of states has for a state, if any
 --     values_of row             those of its row
 --     values_in x s             those of the state's row, if it has one
---     HasValuesOf, HasValuesFrom
+--     HasValuesOf, HasFrom
 --                               the table has of each state what its row says, of these rows, or of those from a place on
-use Rattle.std.specs.Prelude.{◌≡◌, ℕ, ◌+◌, ◌<◌, Option, List, map, drop, length, Bool, option_map}
+use Rattle.std.specs.Prelude.{◌≡◌, ℕ, ◌<◌, Option, List, map, drop, length, Bool, option_map}
 use Rattle.std.specs.List.{flat_map, All}
 use Rattle.std.specs.Map.{lookup}
 use Rattle.certificate.specs.Rows.{Row}
@@ -20,7 +20,7 @@ use Rattle.decision_process.specs.Readings.{row_at}
 use Rattle.ground_model.specs.Packed.{State, words_for, same_state}
 use Rattle.ground_model.specs.Ground.{Ground}
 use Rattle.certificate_check.specs.declared.row_table.Values.{Values}
-use Rattle.certificate_check.specs.Claims.{atom_numbers, act_codes, knows, row_state, rows_of}
+use Rattle.certificate_check.specs.Claims.{act_codes, knows, row_state, rows_of}
 
 pub record Claimed : Type 0 where
   pub problem : Ground
@@ -49,13 +49,9 @@ abbrev pub HasValuesOf : Ground → Content → List Row → List (State × Valu
 HasValuesOf g c rows entries =
     (s : State) → values_at entries s ≡ option_map values_of (row_at same_state (rows_of g c rows) s)
 
-abbrev pub HasValuesFrom : Claimed → ℕ → List (State × Values) → Type 0
-HasValuesFrom x place entries =
+abbrev pub HasFrom : Claimed → ℕ → List (State × Values) → Type 0
+HasFrom x place entries =
     HasValuesOf x.problem x.certificate (drop place x.certificate.rows) entries
-
--- the table gets the row in a place
-abbrev pub PutsRow : Claimed → ℕ → List (State × Values) → List (State × Values) → Type 0
-PutsRow x place old new = HasValuesFrom x (place + 1) old → HasValuesFrom x place new
 
 abbrev pub values_in : Claimed → State → Option Values
 values_in x s = option_map values_of (row_at same_state (rows_of x.problem x.certificate x.certificate.rows) s)

@@ -7,7 +7,7 @@
 --     IsFirstFailure ..        row k is the first that is not sound, and v says why
 --     IsVerdict g c v          the penalty is that of the problem, each row is sound, the interval is that of the starts; or v names
 --                              the first of these that fails, in this order
-use Rattle.std.specs.Prelude.{◌≡◌, ◌≢◌, ℕ, ◌+◌, ◌<◌, Option, Some, None, List, IsTrue}
+use Rattle.std.specs.Prelude.{◌≡◌, ◌≢◌, ℕ, ◌+◌, ◌<◌, Option, Some, None, IsTrue}
 use Rattle.std.specs.List.{slice_get}
 use Rattle.certificate.specs.Rows.{Row}
 use Rattle.certificate.specs.Content.{Content}

@@ -1,7 +1,7 @@
 //! The values of states, by hash.
 
 ghost use Rattle.std.specs.Prelude.{◌+◌, ◌<◌, length, OnOk};
-ghost use Rattle.certificate_check.specs.GroundRows.{HasValuesFrom, by_state};
+ghost use Rattle.certificate_check.specs.GroundRows.{HasFrom, by_state};
 
 use crate::ground_rows::GroundRows;
 use std::alloc::{AllocError, Global};
@@ -26,7 +26,7 @@ pub(crate) struct RowTable<'a> {
 impl<'a> Model for RowTable<'a> {
     ghost use Rattle.std.specs.Coded.{codes};
     ghost use Rattle.ground_model.specs.contracts.condition.GroundCondition as of_conditions;
-    ghost use Rattle.certificate_check.specs.GroundRows.{Claimed, HasValuesFrom, by_state};
+    ghost use Rattle.certificate_check.specs.GroundRows.{Claimed, HasFrom, by_state};
 
     ghost Value = { Claimed };
 
@@ -34,7 +34,7 @@ impl<'a> Model for RowTable<'a> {
 
     ghost view = { λ t. t.rows.now };
 
-    ghost invariant = { λ t. HasValuesFrom t.rows.now 0 (by_state t.entries.entries (λ k. k.now)) };
+    ghost invariant = { λ t. HasFrom t.rows.now 0 (by_state t.entries.entries (λ k. k.now)) };
 }
 
 /// Puts the values of the row in this place beside those of the rows behind it, if the problem has its
@@ -45,8 +45,8 @@ fn put_row<'a>(
     entries: &mut HashMap<&'a [u64], Values>,
 ) -> Result<(), AllocError>
     requires { place < length rows.now.certificate.rows }
-    ensures { OnOk result (HasValuesFrom rows.now (place + 1) (by_state entries.old.entries (λ k. k.now))
-        → HasValuesFrom rows.now place (by_state entries.new.entries (λ k. k.now))) }
+    ensures { OnOk result (HasFrom rows.now (place + 1) (by_state entries.old.entries (λ k. k.now))
+        → HasFrom rows.now place (by_state entries.new.entries (λ k. k.now))) }
 {
     let row = rows.certificate().rows().row(place);
     if !rows.knows(place) {

@@ -11,7 +11,9 @@
 --     Adds old new holds whole   the same of literals that are put behind others
 --     AddsCondition c old new whole
 --                                and of those of the condition c
-use Rattle.std.specs.Prelude.{◌≡◌, ℕ, ◌*◌, ◌%◌, ◌^◌, Bool, cond, not, ◌&&◌, nat_eq, List, get_or, IsTrue}
+--     AddsLiterals c tests atoms tests' atoms' whole
+--                                the same of vectors
+use Rattle.std.specs.Prelude.{◌≡◌, ℕ, ◌*◌, ◌%◌, ◌^◌, Bool, cond, not, ◌&&◌, nat_eq, List, get_or, IsTrue, Vec}
 use Rattle.std.specs.Prelude.{bit_and, bit_or}
 use Rattle.std.specs.List.{list_all}
 use Rattle.ground_model.specs.declared.condition.GroundCondition.{GroundCondition}
@@ -64,3 +66,7 @@ pub record Adds (old new : Literals) (holds : State → Bool) (whole : Bool) : T
 
 abbrev pub AddsCondition : GroundCondition → Literals → Literals → Bool → Type 0
 AddsCondition c old new whole = Adds old new (λ s. truth (has_bit s) c) whole
+
+-- of literals that stand in vectors
+abbrev pub AddsLiterals : {A B : Type 0} → GroundCondition → Vec WordTest A → Vec ℕ B → Vec WordTest A → Vec ℕ B → Bool → Type 0
+AddsLiterals c tests atoms tests' atoms' whole = AddsCondition c (tests.items, atoms.items) (tests'.items, atoms'.items) whole

@@ -17,8 +17,8 @@ use ground_step::{make_all_false, make_true, true_atoms};
 use std::alloc::{AllocError, Global};
 use std::marker::Model;
 
-/// The actions of a problem, each found by the rarest of the atoms that it requires. It is made once, and
-/// is read by many at a time. Contracts see the problem.
+/// The actions of a problem, each found by the rarest of the atoms that it requires. It is made once,
+/// and is read by many at a time. Contracts see the problem.
 ///
 /// It answers what the successor generator of Fast Downward does (Helmert 2006), by one atom for each
 /// action in place of a tree.

@@ -1,7 +1,7 @@
 //! What a condition requires: masks of words and atoms.
 
 ghost use Rattle.std.specs.Prelude.{IfOk, OnOk};
-ghost use Rattle.open_actions.specs.Masks.{AddsLiteral, AddsCondition};
+ghost use Rattle.open_actions.specs.Masks.{AddsLiteral, AddsLiterals};
 
 use crate::word_test::WordTest;
 use ground_model::GroundCondition;
@@ -27,14 +27,14 @@ fn add_literal(tests: &mut Vec<WordTest>, atom: u32, is_true: bool) -> Result<()
     Ok(())
 }
 
-/// Puts the literals of a conjunction behind others, and those atoms that it requires. Whether they are
-/// the whole condition.
+/// Puts the literals of a conjunction behind others, and those atoms that it requires. Whether they
+/// are the whole condition.
 pub(crate) fn collect(
     condition: &GroundCondition,
     tests: &mut Vec<WordTest>,
     atoms: &mut Vec<u32>,
 ) -> Result<bool, AllocError>
-    ensures { IfOk result (AddsCondition condition.now (tests.old.items, atoms.old.items) (tests.new.items, atoms.new.items)) }
+    ensures { IfOk result (AddsLiterals condition.now tests.old atoms.old tests.new atoms.new) }
 {
     match condition {
         GroundCondition::True => Ok(true),

@@ -3,6 +3,8 @@
 --     UpperFollows p high s act value
 --                                the upper value is 0 at a goal, and follows from those of the next states
 --     AllAllow p low s value     no open action gives less than the lower value
+--     IsIntervalOf g low high lower upper
+--                                the interval of the initial states
 --     start_sum g v              the sum of the weights of the initial states times their values
 --     HasRoom g s scratch        the scratch has a state as long as s, and room for all actions
 --     IsFirstFault p low high s claim fault
@@ -11,6 +13,7 @@
 use Rattle.std.specs.Prelude.{◌≡◌, ℕ, ◌*◌, ◌<◌, ◌≤◌, ◌^◌, length, true, false, Option, Some, None, Contains}
 use Rattle.decision_process.specs.Process.{Process, at_starts}
 use Rattle.decision_process.specs.Backup.{action_value}
+use Rattle.decision_process.specs.Balanced.{IsInterval}
 use Rattle.decision_process.specs.Following.{IsLowerFrom, IsUpperFrom}
 use Rattle.ground_model.specs.Packed.{State}
 use Rattle.ground_model.specs.Ground.{Ground}
@@ -54,6 +57,10 @@ IsFault g low high s claim fault = IsFirstFault (ground_process g) low high s cl
 
 abbrev pub start_sum : Ground → (State → ℕ) → ℕ
 start_sum g v = at_starts v (ground_starts g)
+
+-- of a ground problem
+abbrev pub IsIntervalOf : Ground → (State → ℕ) → (State → ℕ) → ℕ → ℕ → Type 0
+IsIntervalOf g low high lower upper = IsInterval low high (ground_starts g) g.start_den lower upper
 
 pub record HasRoom (g : Ground) (s : State) (scratch : Scratch) : Type 0 where
   pub words : 64 * length s < 2 ^ 32

@@ -1,9 +1,7 @@
 //! The interval of a certificate.
 
 ghost use Rattle.std.specs.Prelude.{◌≡◌, ◌↔◌, ◌*◌, ◌≤◌, IsTrue};
-ghost use Rattle.decision_process.specs.Balanced.{IsInterval};
-ghost use Rattle.ground_model.specs.Steps.{ground_starts};
-ghost use Rattle.row_check.specs.Faults.{start_sum};
+ghost use Rattle.row_check.specs.Faults.{start_sum, IsIntervalOf};
 
 use crate::reading::Reading;
 use ground_model::{GroundProblem, Start};
@@ -29,7 +27,7 @@ pub fn is_interval<L: Reading, H: Reading>(
     upper: u64,
 ) -> bool
     ensures { IsTrue result
-        ↔ IsInterval (L.value low.now) (H.value high.now) (ground_starts problem.now) problem.now.start_den lower upper }
+        ↔ IsIntervalOf problem.now (L.value low.now) (H.value high.now) lower upper }
 {
     let den = u128::from(problem.start_den());
     start_sum(problem, low) / den == u128::from(lower)

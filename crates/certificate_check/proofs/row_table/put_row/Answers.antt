@@ -1,10 +1,10 @@
 -- The row in its place is the first of those from there on.
-use Rattle.std.proofs.Common.{◌≡◌, ◌+◌, ◌∷◌, Some, List, drop, cond, refl, sym, ap, subst, ◌∙◌}
+use Rattle.std.proofs.Common.{◌≡◌, ◌+◌, Some, List, drop, cond, refl, sym, ap, subst, ◌∙◌}
 use Rattle.std.specs.List.{slice_get}
 use Rattle.certificate.specs.Rows.{Row, shown}
 use Rattle.certificate.specs.Content.{Content, IsCertificate}
 use Rattle.ground_model.specs.Packed.{same_state}
-use Rattle.certificate_check.specs.GroundRows.{values_at, by_state, HasValuesOf}
+use Rattle.certificate_check.specs.GroundRows.{by_state, HasValuesOf}
 use Rattle.certificate_check.proofs.Table.{lookup-shown, drop_at, values_put, values_passed}
 use Rattle.certificate_check.proofs.row_table.put_row.Goals as goal
 

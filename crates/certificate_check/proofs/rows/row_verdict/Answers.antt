@@ -6,7 +6,7 @@ use Rattle.certificate.specs.Content.{Content}
 use Rattle.ground_model.specs.Choices.{is_member}
 use Rattle.ground_model.specs.Packed.{words_for}
 use Rattle.ground_model.proofs.Packed.{length-packed}
-use Rattle.certificate_check.specs.Claims.{atom_numbers, numbers_of, row_state}
+use Rattle.certificate_check.specs.Claims.{atom_numbers, numbers_of}
 use Rattle.certificate_check.specs.Verdicts.{IsRowVerdict}
 use Rattle.certificate_check.proofs.RowVerdict.{row_answer, room_after, room_before}
 use Rattle.certificate_check.proofs.rows.row_verdict.Goals as goal

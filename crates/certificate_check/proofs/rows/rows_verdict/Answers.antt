@@ -1,5 +1,5 @@
 -- Each row before is sound.
-use Rattle.std.proofs.Common.{◌≡◌, Some, length, arith, subst, sym, ap, ◌∙◌}
+use Rattle.std.proofs.Common.{◌≡◌, Some, length, arith, ap, ◌∙◌}
 use Rattle.std.specs.List.{slice_get}
 use Rattle.certificate.specs.Rows.{Row}
 use Rattle.certificate.specs.Content.{Content}

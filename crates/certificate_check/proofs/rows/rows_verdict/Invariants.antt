@@ -1,4 +1,3 @@
-use Rattle.std.proofs.Common.{◌≡◌}
 use Rattle.certificate_check.specs.Pass.{HasRoomFor}
 use Rattle.certificate_check.specs.Verdicts.{AreSoundBefore}
 use Rattle.certificate_check.proofs.rows.rows_verdict.Given as goal

@@ -1,5 +1,5 @@
 -- The parts are made of the certificate's.
-use Rattle.std.proofs.Common.{◌≡◌, map, length, ap, ◌∙◌}
+use Rattle.std.proofs.Common.{◌≡◌, map, ap, ◌∙◌}
 use Rattle.std.specs.List.{flat_map}
 use Rattle.ground_step.specs.Names.{place_of, action_names}
 use Rattle.certificate_check.specs.Claims.{atom_numbers, is_known, state_of_row}

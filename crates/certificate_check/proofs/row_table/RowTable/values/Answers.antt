@@ -1,5 +1,5 @@
 -- The table has of each state what its row says.
-use Rattle.std.proofs.Common.{◌≡◌, sym, ap, ◌∙◌}
+use Rattle.std.proofs.Common.{sym, ap, ◌∙◌}
 use Rattle.std.specs.Prelude.{option_map}
 use Rattle.decision_process.specs.Readings.{row_at}
 use Rattle.ground_model.specs.Packed.{same_state}
