@@ -1,10 +1,11 @@
-mod Lists
-mod Words
-mod Facts
-mod States
-mod Looks
-mod Numbers
-mod Ids
-mod Seats
-mod Told
-mod Publishing
+pub mod Lists
+pub mod Words
+pub mod Facts
+pub mod States
+pub mod Looks
+pub mod Numbers
+pub mod Ids
+pub mod Seats
+pub mod Told
+pub mod Publishing
+pub mod Made

@@ -43,7 +43,7 @@ use Rattle.word_rule.proofs.Facts.{own, lives, knows_in_core, known_is_published
 -- ---- states
 
 -- the notes of a state's words
-all_words_of : (P : StateWord → Type 0) (id place : ℕ) (s : State)
+pub all_words_of : (P : StateWord → Type 0) (id place : ℕ) (s : State)
     → ((i : ℕ) → i < length s → P (state_word id (place + i) (get_or s i 0))) → All P (words_of id place s)
 all_words_of P id place [] each = All-nil P
 all_words_of P id place (x ∷ xs) each = All-cons P (state_word id place x) (words_of id (place + 1) xs)
@@ -62,7 +62,7 @@ next_is_inside g is s t inside next = elim (cases_Bool ((ground_process g).goal 
       subst (λ u. IsTrue (is_inside (length g.atoms) u)) outcome.2 (outcomes_stay_inside g is found.0 s inside outcome.0 outcome.1)
 ]
 
-first_within : (g : Ground) (s : State) → first_word g s ≤ quit_word g.penalty
+pub first_within : (g : Ground) (s : State) → first_word g s ≤ quit_word g.penalty
 first_within g s = elim (cases_Bool ((ground_process g).goal s)) [
   | inl on ↦ subst (λ b. cond b goal_word (quit_word g.penalty) ≤ quit_word g.penalty) (sym on) (omega arith)
   | inr off ↦ subst (λ b. cond b goal_word (quit_word g.penalty) ≤ quit_word g.penalty) (sym off) (omega arith)

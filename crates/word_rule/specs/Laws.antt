@@ -4,6 +4,7 @@
 --                                s' shows
 --     with_view s k v            the table with another view of seat k
 --     with_word s i x k v        and with another word i
+--     MadeHolds                  the rule holds of a table as it is made of distinct reachable states
 --     StepKeepsTheRule           so a step keeps the rule
 --     LowerLoadIsAStep, UpperLoadIsAStep, RaiseIsAStep, SinkIsAStep, CountLoadIsAStep, ClaimIsAStep, WriteIsAStep,
 --     HeldLoadIsAStep, EmptyLoadIsAStep, StateLoadIsAStep, PublishIsAStep, SplitIsAStep, OneRightIsAStep, JoinIsAStep,
@@ -11,12 +12,16 @@
 --                                the kinds of step; an exchange that is refused is a look at what it found
 --     LowerIsTold, UpperIsTold, CountIsTold, HeldIsTold, StatesAreTold
 --                                what a step tells its own pass
+use Rattle.std.specs.Prelude.{List, AllPairs, Contains}
 use Rattle.std.specs.Prelude.{◌≡◌, ◌≢◌, ℕ, ◌+◌, ◌<◌, ◌≤◌, min, max, true, Some, None}
 use Rattle.std.specs.Prelude.{[], ◌∷◌, ◌++◌, slice_set}
 use mathlib.Core.Option.{some}
 use lib.ListN.{get_elem?}
+use Rattle.atomic_table.specs.Table.{opening}
+use Rattle.decision_process.specs.Levels.{IsReachable}
 use Rattle.ground_model.specs.Packed.{State}
 use Rattle.ground_model.specs.Ground.{Ground}
+use Rattle.ground_model.specs.Steps.{ground_process, ground_starts}
 use Rattle.bound_core.specs.declared.event.Event.{Event}
 use Rattle.bound_core.specs.declared.event.Event.TheVariants.{SeeLower, SeeUpper, Raise, Sink, Claim}
 use Rattle.bound_core.specs.declared.event.Event.TheVariants.{Write, Publish, Look, Split, Join}
@@ -30,9 +35,10 @@ use Rattle.word_view.specs.Views.{knows, CanRaise, CanSink, CanPublish}
 use Rattle.word_view.specs.Steps.{with_lower_load, with_upper_load, with_lower, with_upper, with_count}
 use Rattle.word_view.specs.Steps.{with_spare, with_written, with_held, with_empty, with_state_word}
 use Rattle.word_view.specs.Steps.{with_published, without_rights, with_one_right, less_one_right}
-use Rattle.word_view.specs.Steps.{united, richer, spent}
+use Rattle.word_view.specs.Steps.{united, richer, spent, first_view}
 use Rattle.word_rule.specs.Words.{Table, word, given_in, held_in, lower_in, upper_in, AreWords}
-use Rattle.word_rule.specs.Rule.{Shows, AreRights, Holds}
+use Rattle.word_rule.specs.Rule.{Shows, AreRights, IsTable, Holds}
+use Rattle.word_rule.specs.Made.{AreMade}
 use Rattle.word_rule.specs.Told.{TellsLower, TellsUpper, TellsCount, HasRoom, HasOneEach}
 
 pub record IsViewOf (g : Ground) (l : Layout) (v : View) : Type 0 where
@@ -68,6 +74,12 @@ module _ (g : Ground) (l : Layout) (most : ℕ) where
     pub rights : AreRights l most s'
     pub event : (c : Core) → Sound g c → Shows g l s c
         → Allowed g c e × Shows g l s' (after g c e)
+
+  abbrev pub MadeHolds : Type 0
+  MadeHolds = (states : List State) (ws : List ℕ) → IsTable g l → AreMade g l states ws
+      → AllPairs (λ (s t : State). s ≢ t) states
+      → ((s : State) → Contains states s → IsReachable (ground_process g) (ground_starts g) s)
+      → Holds g l most (opening ws [] (first_view g l most states))
 
   abbrev pub StepKeepsTheRule : Type 0
   StepKeepsTheRule = (s s' : Table) (e : Event) → Holds g l most s → IsStep s s' e

@@ -1,4 +1,5 @@
 pub mod Words
 pub mod Rule
 pub mod Told
+pub mod Made
 pub mod Laws

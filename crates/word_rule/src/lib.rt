@@ -4,4 +4,4 @@
 
 mod laws;
 
-pub use laws::{step_laws, told_laws};
+pub use laws::{made_laws, step_laws, told_laws};

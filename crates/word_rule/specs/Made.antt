@@ -1,0 +1,30 @@
+-- Words as a table is made.
+--     AreMade g l states ws      the states are published with their places as ids, each in a bucket of its run behind taken ones, at
+--                                their first numbers; no other id is given out
+use Rattle.std.specs.Prelude.{◌≡◌, ◌≢◌, ℕ, ◌+◌, ◌<◌, ◌≤◌, Some, List, length}
+use Rattle.std.specs.List.{slice_get}
+use Rattle.ground_model.specs.Packed.{State}
+use Rattle.ground_model.specs.Ground.{Ground}
+use Rattle.bound_core.specs.Numbers.{first_word, quit_word}
+use Rattle.word_layout.specs.declared.layout.Layout.{Layout}
+use Rattle.word_layout.specs.Places.{size}
+use Rattle.word_rule.specs.Words.{given_in, held_in, state_in, lower_in, upper_in, IsPublished, IsRun}
+use Rattle.word_rule.specs.Rule.{taken_below}
+
+pub record AreMade (g : Ground) (l : Layout) (states : List State) (ws : List ℕ) : Type 0 where
+  pub wide : length ws ≡ size l
+  pub given : given_in ws ≡ length states
+  pub few : length states ≤ l.ids
+  pub in_bucket : (id : ℕ) → id < length states → IsPublished l ws id
+  pub only : (id : ℕ) → IsPublished l ws id → id < length states
+  pub once : (b c : ℕ) → b < l.buckets → c < l.buckets → held_in ws b ≢ 0
+      → held_in ws b ≡ held_in ws c → b ≡ c
+  pub run : (bucket id : ℕ) → bucket < l.buckets → held_in ws bucket ≡ id + 1
+      → IsRun l ws (state_in l ws id) bucket
+  pub taken : taken_below ws l.buckets ≡ length states
+  pub state : (id : ℕ) (s : State) → slice_get states id ≡ Some s
+      → (length s ≡ l.width) × (state_in l ws id ≡ s)
+  pub published : (id : ℕ) → IsPublished l ws id → (lower_in l ws id ≡ 0)
+      × (upper_in l ws id ≡ first_word g (state_in l ws id))
+  pub others : (id : ℕ) → id < l.ids → (IsPublished l ws id → ⊥) → (lower_in l ws id ≡ 0)
+      × (upper_in l ws id ≡ quit_word g.penalty)
