@@ -1,5 +1,5 @@
 -- Each row is carried to the task.
-use Rattle.std.proofs.Common.{◌≡◌, ℕ, zero, suc, ◌<◌, true, List, [], ◌∷◌, Option, Some, None, length, map, filter, get_or, refl, sym, ap, subst, ◌∙◌, arith, inl, inr}
+use Rattle.std.proofs.Common.{◌≡◌, ℕ, zero, suc, ◌<◌, List, [], ◌∷◌, Option, Some, None, length, map, filter, get_or, refl, sym, ap, subst, ◌∙◌, arith, inl, inr}
 use Rattle.std.specs.Prelude.{Contains, All, IsTrue, nat_eq}
 use Rattle.std.specs.List.{slice_get, AllZip}
 use Rattle.std.specs.Cmp.Lexicographic.{pointwise}
@@ -9,7 +9,7 @@ use Rattle.std.proofs.lemmas.List.Elements.{All-map, All-head, All-tail}
 use Rattle.std.proofs.lemmas.List.Quantifiers.{position-Some}
 use Rattle.std.proofs.lemmas.Map.Views.{Contains-from_any}
 use Rattle.std.proofs.lemmas.Option.{none-some}
-use Rattle.plain_list.proofs.Members.{Contains-first, Contains-later, Contains-cons_cases, Contains-nil, Contains-flat_map_cases}
+use Rattle.plain_list.proofs.Members.{Contains-cons_cases, Contains-nil, Contains-flat_map_cases}
 use Rattle.certificate.specs.declared.act.Act as cert
 use Rattle.certificate.specs.declared.act.Act.TheVariants as acts
 use Rattle.certificate.specs.Rows as rows
@@ -18,7 +18,7 @@ use Rattle.decision_process.specs.Readings.{Row}
 use Rattle.decision_process.proofs.Readings.{certificate_encloses}
 use Rattle.process_homomorphism.specs.Counterparts.{IsRowActOf, IsRowOf}
 use Rattle.ppddl_model.specs.declared.tree.Task.{Task}
-use Rattle.ppddl_model.specs.State.{State, same_state}
+use Rattle.ppddl_model.specs.State.{same_state}
 use Rattle.ppddl_model.specs.Changing.{kept_instances}
 use Rattle.ppddl_model.specs.Steps.{Instance, Charges, starts, start_den, process}
 use Rattle.ground_model.specs.declared.action.GroundAction.{GroundAction}
