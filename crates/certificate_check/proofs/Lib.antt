@@ -2,6 +2,7 @@ pub mod Acts
 pub mod Arena
 pub mod Distinct
 pub mod Ending
+pub mod Places
 pub mod Rising
 pub mod RowVerdict
 pub mod Sound

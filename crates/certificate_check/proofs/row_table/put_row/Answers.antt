@@ -1,10 +1,10 @@
 -- The row in its place is the first of those from there on.
-use Rattle.std.proofs.Common.{◌≡◌, ◌+◌, Some, List, drop, cond, refl, sym, ap, subst, ◌∙◌}
-use Rattle.std.specs.List.{slice_get}
+use Rattle.std.proofs.Common.{◌+◌, Some, List, drop, cond, refl, sym, subst, ◌∙◌}
 use Rattle.certificate.specs.Rows.{Row, shown}
-use Rattle.certificate.specs.Content.{Content, IsCertificate}
+use Rattle.certificate.specs.Content.{IsCertificate}
 use Rattle.ground_model.specs.Packed.{same_state}
 use Rattle.certificate_check.specs.GroundRows.{by_state, HasValuesOf}
+use Rattle.certificate_check.proofs.Places.{read_at}
 use Rattle.certificate_check.proofs.Table.{lookup-shown, drop_at, values_put, values_passed}
 use Rattle.certificate_check.proofs.row_table.put_row.Goals as goal
 
@@ -12,8 +12,7 @@ pub returns-then-not-knows : goal.returns-then-not-knows
 returns-then-not-knows c = λ has.
     let x = c.args.rows.now in
     let mine : Row = shown c.row-row.result in
-    let at : slice_get x.certificate.rows c.args.place ≡ Some mine
-    = ap (λ xs. slice_get xs c.args.place) (sym (c.rows.ensures.value ∙ ap (λ (y : Content). y.rows) c.certificate.ensures)) ∙ c.row-row.ensures in
+    let at = read_at x c.certificate.result.now c.rows.result.now c.args.place mine c.certificate.ensures c.rows.ensures.value c.row-row.ensures in
     let is : IsCertificate x.certificate = subst IsCertificate c.certificate.ensures c.rows.ensures.valid in
     let entries = by_state c.args.entries.now.entries (λ k. k.now) in
     subst (λ (rows : List Row). HasValuesOf x.problem x.certificate rows entries) (sym (drop_at x.certificate.rows c.args.place mine at))
@@ -24,8 +23,7 @@ pub returns-in-Ok : goal.returns-in-Ok
 returns-in-Ok c = λ has.
     let x = c.args.rows.now in
     let mine : Row = shown c.row-row.result in
-    let at : slice_get x.certificate.rows c.args.place ≡ Some mine
-    = ap (λ xs. slice_get xs c.args.place) (sym (c.rows.ensures.value ∙ ap (λ (y : Content). y.rows) c.certificate.ensures)) ∙ c.row-row.ensures in
+    let at = read_at x c.certificate.result.now c.rows.result.now c.args.place mine c.certificate.ensures c.rows.ensures.value c.row-row.ensures in
     let is : IsCertificate x.certificate = subst IsCertificate c.certificate.ensures c.rows.ensures.valid in
     let before = by_state c.args.entries.now.entries (λ k. k.now) in
     let after = by_state c.insert.new.self.entries (λ k. k.now) in
