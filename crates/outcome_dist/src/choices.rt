@@ -1,0 +1,12 @@
+//! Joint choices with their denominator.
+
+use ground_model::{Choice, List};
+
+/// The joint choices of an effect, in lowest terms.
+#[derive(Drop, Debug)]
+pub struct Choices {
+    /// The choices, in order. Their weights sum to the denominator.
+    pub list: List<Choice>,
+    /// The denominator of the weights.
+    pub den: u64,
+}
