@@ -6,3 +6,4 @@ pub mod Conditions
 pub mod Chances
 pub mod Costs
 pub mod Effects
+pub mod Laws

@@ -1,5 +1,4 @@
 -- Readings that are put together, beside those of `token_cursor`.
---     skipped                 any word
 --     by_word test x y        a word, as x reads it where it passes the test, and else as y does
 --     or_word w at other      this word, or what the other reads
 --     many_behind read seen   the list of what each form gives, behind what was read before
@@ -13,10 +12,7 @@ use Rattle.token_cursor.specs.declared.place.Place.{Place}
 use Rattle.token_cursor.specs.Ahead.{same}
 use Rattle.token_cursor.specs.Forms.{Form, Forms, lone, group, none, more}
 use Rattle.token_cursor.specs.Reading.{Fault, fails}
-use Rattle.token_cursor.specs.Sequences.{of_word, each, adding}
-
-unfoldable pub skipped : Form → Result (Unit {0}) Fault
-skipped = of_word (λ w a. Ok tt)
+use Rattle.token_cursor.specs.Sequences.{each, adding}
 
 unfoldable pub by_word : {A : Type 0} → (List ℕ → Bool) → (Form → Result A Fault) → (Form → Result A Fault) → Form → Result A Fault
 by_word test x y (lone w a) = if test w then x (lone w a) else y (lone w a)

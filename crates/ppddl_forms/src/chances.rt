@@ -15,7 +15,7 @@ use token_cursor::{Cursor, Place};
 
 /// The chances of one `probabilistic` so far, which contracts see as their list.
 #[derive(Drop)]
-pub(crate) struct Chances {
+pub struct Chances {
     list: Vec<Fraction>,
     // the least common multiple of their denominators
     den: u64,
@@ -37,7 +37,7 @@ impl Model for Chances {
 
 impl Chances {
     /// No chances.
-    pub(crate) fn new(alloc: Global) -> Self
+    pub fn new(alloc: Global) -> Self
         ensures { result ≡ [] }
     {
         Chances {
@@ -67,9 +67,10 @@ impl Chances {
     }
 }
 
-/// Reads a probability behind those of the same `probabilistic`.
+/// Reads a probability behind those of the same `probabilistic`. It is refused where the least common
+/// multiple of their denominators is out of range, and else where they sum to more than 1.
 #[tactic(auto, using(crate::proofs::Steps::form_steps), unfolding(crate::specs::Chances::next_chance))]
-pub(crate) fn read_chance(
+pub fn read_chance(
     cursor: &mut Cursor<'_>,
     chances: &mut Chances,
 ) -> Result<Fraction, TextRefusal>

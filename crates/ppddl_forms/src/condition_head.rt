@@ -9,7 +9,7 @@ use ppddl_lex::{is_same_word, keywords};
 
 /// What a group is that stands for a condition, by the word with which it begins.
 #[derive(Clone, Copy, Debug)]
-pub(crate) enum ConditionHead {
+pub enum ConditionHead {
     /// `not`
     Not,
     /// `and`

@@ -77,7 +77,7 @@ fn read_function_group(
 
 /// Reads a function with its arguments, with the place of its name.
 #[tactic(auto, using(crate::proofs::Steps::form_steps), unfolding(crate::specs::Costs::function_term))]
-pub(crate) fn read_function_term(
+pub fn read_function_term(
     alloc: Global,
     cursor: &mut Cursor<'_>,
     names: &Names,

@@ -8,7 +8,7 @@ use ppddl_lex::{is_same_word, keywords};
 
 /// What a group is that stands for an effect, by the word with which it begins.
 #[derive(Clone, Copy, Debug)]
-pub(crate) enum EffectHead {
+pub enum EffectHead {
     /// `not`
     Not,
     /// `and`

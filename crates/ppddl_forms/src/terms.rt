@@ -166,7 +166,7 @@ pub(crate) fn read_application(
 
 /// Reads `NAME TERM* )` of a declared predicate.
 #[tactic(auto, using(crate::proofs::Steps::form_steps), unfolding(crate::specs::Terms::atom_in, crate::specs::Terms::application))]
-pub(crate) fn read_atom_in(
+pub fn read_atom_in(
     alloc: Global,
     cursor: &mut Cursor<'_>,
     names: &Names,
@@ -185,7 +185,7 @@ pub(crate) fn read_atom_in(
 
 /// Reads `( NAME TERM* )` of a declared predicate.
 #[tactic(auto, using(crate::proofs::Steps::form_steps), unfolding(crate::specs::Terms::atom))]
-pub(crate) fn read_atom(
+pub fn read_atom(
     alloc: Global,
     cursor: &mut Cursor<'_>,
     names: &Names,

@@ -4,7 +4,6 @@ ghost use Rattle.std.specs.Prelude.{◌≡◌, ◌<◌, IfOk, OnOk};
 ghost use Rattle.exact_fraction.specs.Numbers.{IsProbability};
 ghost use Rattle.token_cursor.specs.Ahead.{size};
 ghost use Rattle.token_cursor.specs.Reading.{ReadsOne};
-ghost use Rattle.ppddl_forms.specs.Sequences.{skipped};
 ghost use Rattle.ppddl_forms.specs.Words.{name, variable, flag, amount};
 ghost use Rattle.ppddl_forms.specs.Words.{probability, probability_code, reward};
 
@@ -14,17 +13,6 @@ use ppddl_lex::{is_flag, is_name, is_variable, keywords};
 use ppddl_model::{Fraction, TextCode, TextRefusal};
 use std::alloc::Global;
 use token_cursor::{Cursor, TokenKind};
-
-/// Goes past a word.
-#[tactic(auto, using(crate::proofs::Steps::form_steps), unfolding(crate::specs::Sequences::skipped))]
-pub(crate) fn skip_word(cursor: &mut Cursor<'_>) -> Result<(), TextRefusal>
-    ensures gives { ReadsOne skipped cursor.old cursor.new result }
-    ensures fewer { OnOk result (size cursor.new < size cursor.old) }
-{
-    cursor.word_ahead()?;
-    cursor.advance();
-    Ok(())
-}
 
 /// Reads a name.
 #[tactic(auto, using(crate::proofs::Steps::form_steps), unfolding(crate::specs::Words::name))]
