@@ -1,0 +1,11 @@
+use Rattle.std.proofs.Common.{◌≡◌, ◌∷◌, ◌++◌, drop, map}
+use Rattle.std.specs.Prelude.{flat_map, codes}
+use Rattle.plain_list.specs.Texts.{list_text}
+use Rattle.type_table.specs.Types.{object_at}
+use Rattle.ground_names.proofs.Spelling.{spaced}
+use Rattle.instance_names.proofs.names.text_of_row.Given as goal
+
+abbrev pub invariant-loop-object : goal.invariant-loop-object
+invariant-loop-object l =
+    l.text.items ++ (flat_map spaced (map (object_at l.table) (drop l.object-index l.row)) ++ codes ")")
+    ≡ list_text (l.name ∷ map (object_at l.table) l.row)

@@ -1,0 +1,6 @@
+//! The names of ground actions.
+#![tactic(auto)]
+
+mod names;
+
+pub use names::instance_text;
