@@ -9,3 +9,4 @@ pub mod Seats
 pub mod Told
 pub mod Publishing
 pub mod Made
+pub mod Putting

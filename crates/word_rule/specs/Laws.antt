@@ -5,6 +5,7 @@
 --     with_view s k v            the table with another view of seat k
 --     with_word s i x k v        and with another word i
 --     MadeHolds                  the rule holds of a table as it is made of distinct reachable states
+--     PutIsMade                  words with one state more are made of one state more
 --     StepKeepsTheRule           so a step keeps the rule
 --     LowerLoadIsAStep, UpperLoadIsAStep, RaiseIsAStep, SinkIsAStep, CountLoadIsAStep, ClaimIsAStep, WriteIsAStep,
 --     HeldLoadIsAStep, EmptyLoadIsAStep, StateLoadIsAStep, PublishIsAStep, SplitIsAStep, OneRightIsAStep, JoinIsAStep,
@@ -12,7 +13,7 @@
 --                                the kinds of step; an exchange that is refused is a look at what it found
 --     LowerIsTold, UpperIsTold, CountIsTold, HeldIsTold, StatesAreTold
 --                                what a step tells its own pass
-use Rattle.std.specs.Prelude.{List, AllPairs, Contains}
+use Rattle.std.specs.Prelude.{List, length, AllPairs, Contains}
 use Rattle.std.specs.Prelude.{◌≡◌, ◌≢◌, ℕ, ◌+◌, ◌<◌, ◌≤◌, min, max, true, Some, None}
 use Rattle.std.specs.Prelude.{[], ◌∷◌, ◌++◌, slice_set}
 use mathlib.Core.Option.{some}
@@ -29,7 +30,7 @@ use Rattle.bound_core.specs.Core.{Core}
 use Rattle.bound_core.specs.Events.{Allowed, after}
 use Rattle.bound_core.specs.Sound.{Sound}
 use Rattle.word_layout.specs.declared.layout.Layout.{Layout}
-use Rattle.word_layout.specs.Places.{count_at, bucket_at, state_at, lower_at, upper_at}
+use Rattle.word_layout.specs.Places.{IsLayout, count_at, bucket_at, state_at, lower_at, upper_at}
 use Rattle.word_view.specs.declared.view.View.{View}
 use Rattle.word_view.specs.Views.{knows, CanRaise, CanSink, CanPublish}
 use Rattle.word_view.specs.Steps.{with_lower_load, with_upper_load, with_lower, with_upper, with_count}
@@ -38,7 +39,7 @@ use Rattle.word_view.specs.Steps.{with_published, without_rights, with_one_right
 use Rattle.word_view.specs.Steps.{united, richer, spent, first_view}
 use Rattle.word_rule.specs.Words.{Table, word, given_in, held_in, lower_in, upper_in, AreWords}
 use Rattle.word_rule.specs.Rule.{Shows, AreRights, IsTable, Holds}
-use Rattle.word_rule.specs.Made.{AreMade}
+use Rattle.word_rule.specs.Made.{AreMade, IsPut}
 use Rattle.word_rule.specs.Told.{TellsLower, TellsUpper, TellsCount, HasRoom, HasOneEach}
 
 pub record IsViewOf (g : Ground) (l : Layout) (v : View) : Type 0 where
@@ -80,6 +81,11 @@ module _ (g : Ground) (l : Layout) (most : ℕ) where
       → AllPairs (λ (s t : State). s ≢ t) states
       → ((s : State) → Contains states s → IsReachable (ground_process g) (ground_starts g) s)
       → Holds g l most (opening ws [] (first_view g l most states))
+
+  abbrev pub PutIsMade : Type 0
+  PutIsMade = (states : List State) (s : State) (bucket : ℕ) (ws ws' : List ℕ) → IsLayout l
+      → AreMade g l states ws → length states < l.ids → length s ≡ l.width
+      → IsPut g l s (length states) bucket ws ws' → AreMade g l (states ++ s ∷ []) ws'
 
   abbrev pub StepKeepsTheRule : Type 0
   StepKeepsTheRule = (s s' : Table) (e : Event) → Holds g l most s → IsStep s s' e

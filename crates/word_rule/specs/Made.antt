@@ -28,3 +28,17 @@ pub record AreMade (g : Ground) (l : Layout) (states : List State) (ws : List �
       × (upper_in l ws id ≡ first_word g (state_in l ws id))
   pub others : (id : ℕ) → id < l.ids → (IsPublished l ws id → ⊥) → (lower_in l ws id ≡ 0)
       × (upper_in l ws id ≡ quit_word g.penalty)
+
+pub record IsPut (g : Ground) (l : Layout) (s : State) (id place : ℕ) (ws ws' : List ℕ) : Type 0 where
+  pub bucket : place < l.buckets
+  pub empty : held_in ws place ≡ 0
+  pub run : IsRun l ws s place
+  pub long : length ws' ≡ length ws
+  pub given : given_in ws' ≡ id + 1
+  pub here : held_in ws' place ≡ id + 1
+  pub state : state_in l ws' id ≡ s
+  pub upper : upper_in l ws' id ≡ first_word g s
+  pub other_buckets : (b : ℕ) → b < l.buckets → b ≢ place → held_in ws' b ≡ held_in ws b
+  pub other_states : (i : ℕ) → i < id → state_in l ws' i ≡ state_in l ws i
+  pub lower : (i : ℕ) → i < l.ids → lower_in l ws' i ≡ lower_in l ws i
+  pub other_upper : (i : ℕ) → i < l.ids → i ≢ id → upper_in l ws' i ≡ upper_in l ws i

@@ -3,7 +3,7 @@
 ghost use Rattle.ground_model.specs.Ground.{Ground};
 ghost use Rattle.word_layout.specs.declared.layout.Layout.{Layout};
 ghost use Rattle.std.specs.Prelude.{ℕ};
-ghost use Rattle.word_rule.specs.Laws.{MadeHolds};
+ghost use Rattle.word_rule.specs.Laws.{MadeHolds, PutIsMade};
 ghost use Rattle.word_rule.specs.Laws.{StepKeepsTheRule, LowerLoadIsAStep, UpperLoadIsAStep};
 ghost use Rattle.word_rule.specs.Laws.{RaiseIsAStep, SinkIsAStep, CountLoadIsAStep, ClaimIsAStep};
 ghost use Rattle.word_rule.specs.Laws.{WriteIsAStep, HeldLoadIsAStep, EmptyLoadIsAStep};
@@ -14,6 +14,7 @@ ghost use Rattle.word_rule.specs.Laws.{LowerIsTold, UpperIsTold, CountIsTold, He
 /// The rule holds of a table as it is made.
 pub fn made_laws()
     ensures made { (g : Ground) (l : Layout) (most : ℕ) → MadeHolds g l most }
+    ensures put { (g : Ground) (l : Layout) (most : ℕ) → PutIsMade g l most }
 {}
 
 /// Each kind of step is an event of the core, and so keeps the rule.

@@ -1,6 +1,10 @@
--- The law of tables as they are made, by its lemma.
+-- The laws of tables as they are made, by their lemmas.
 use Rattle.word_rule.proofs.Made.{made_holds}
+use Rattle.word_rule.proofs.Putting.{put_is_made}
 use Rattle.word_rule.proofs.laws.made_laws.Goals as goal
 
-pub returns : goal.returns
-returns c = record { made = made_holds }
+pub returns-clause-made : goal.returns-clause-made
+returns-clause-made c = made_holds
+
+pub returns-clause-put : goal.returns-clause-put
+returns-clause-put c = put_is_made
