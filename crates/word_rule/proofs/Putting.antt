@@ -1,5 +1,5 @@
 -- Words with one state more, while a table is made.
-use Rattle.std.proofs.Common.{◌≡◌, ◌≢◌, ◌⊎◌, ℕ, zero, suc, ◌+◌, ◌<◌, ◌≤◌, List, [], ◌∷◌, ◌++◌, length, Some, None, refl, sym, ap, ◌∙◌, subst, inl, inr, ⊎_elim, arith}
+use Rattle.std.proofs.Common.{◌≡◌, ◌≢◌, ◌⊎◌, ℕ, zero, suc, ◌+◌, ◌<◌, List, [], ◌∷◌, ◌++◌, length, Some, None, refl, sym, ap, ◌∙◌, subst, inl, inr, ⊎_elim, arith}
 use Rattle.std.specs.List.{slice_get}
 use Rattle.std.proofs.lemmas.List.{length-append}
 use mathlib.Core.Logic.{dite}
@@ -38,14 +38,14 @@ taken_more : (ws ws' : List ℕ) (n b : ℕ) → b < n → held_in ws b ≡ 0 �
 taken_more ws ws' zero b below empty filled others = absurd (omega arith)
 taken_more ws ws' (suc n) b below empty filled others = dite (ℕ_discrete n b)
     (λ here.
-        let rest = taken_same ws ws' n (λ c less. others c (omega arith) (λ z. omega arith)) in
-        let now : taken (held_in ws' n) ≡ 1 = ap (λ i. taken (held_in ws' i)) here ∙ taken_one (held_in ws' b) filled in
-        let before : taken (held_in ws n) ≡ 0 = ap (λ i. taken (held_in ws i)) here ∙ ap taken empty in
-        omega arith)
+    let rest = taken_same ws ws' n (λ c less. others c (omega arith) (λ z. omega arith)) in
+    let now : taken (held_in ws' n) ≡ 1 = ap (λ i. taken (held_in ws' i)) here ∙ taken_one (held_in ws' b) filled in
+    let before : taken (held_in ws n) ≡ 0 = ap (λ i. taken (held_in ws i)) here ∙ ap taken empty in
+    omega arith)
     (λ else.
-        let rest = taken_more ws ws' n b (omega arith) empty filled (λ c less. others c (omega arith)) in
-        let same : taken (held_in ws' n) ≡ taken (held_in ws n) = ap taken (others n (omega arith) else) in
-        omega arith)
+    let rest = taken_more ws ws' n b (omega arith) empty filled (λ c less. others c (omega arith)) in
+    let same : taken (held_in ws' n) ≡ taken (held_in ws n) = ap taken (others n (omega arith) else) in
+    omega arith)
 
 module _ (g : Ground) (l : Layout) (states : List State) (s : State) (bucket : ℕ) (ws ws' : List ℕ) (layout : IsLayout l)
     (made : AreMade g l states ws) (room : length states < l.ids) (wide : length s ≡ l.width) (put : IsPut g l s (length states) bucket ws ws') where
@@ -100,11 +100,11 @@ module _ (g : Ground) (l : Layout) (states : List State) (s : State) (bucket : �
         (λ else. made.once b d below below' (λ z. full (put.other_buckets b below other ∙ z)) (sym (put.other_buckets b below other) ∙ (same ∙ put.other_buckets d below' else))));
     run = λ b i below here. dite (ℕ_discrete b bucket)
         (λ at.
-            let is : i ≡ n = last i (ap (held_in ws') (sym at) ∙ here) in
-            subst (λ t. IsRun l ws' t b) (sym (ap (state_in l ws') is ∙ put.state)) (subst (IsRun l ws' s) (sym at) (run_on s bucket put.run)))
+        let is : i ≡ n = last i (ap (held_in ws') (sym at) ∙ here) in
+        subst (λ t. IsRun l ws' t b) (sym (ap (state_in l ws') is ∙ put.state)) (subst (IsRun l ws' s) (sym at) (run_on s bucket put.run)))
         (λ other.
-            let before : held_in ws b ≡ i + 1 = sym (put.other_buckets b below other) ∙ here in
-            subst (λ t. IsRun l ws' t b) (sym (put.other_states i (made.only i (b, below, before)))) (run_on (state_in l ws i) b (made.run b i below before)));
+        let before : held_in ws b ≡ i + 1 = sym (put.other_buckets b below other) ∙ here in
+        subst (λ t. IsRun l ws' t b) (sym (put.other_states i (made.only i (b, below, before)))) (run_on (state_in l ws i) b (made.run b i below before)));
     taken = (
         let more = taken_more ws ws' l.buckets bucket put.bucket put.empty (λ z. let own = put.here in omega arith) put.other_buckets in
         let before = made.taken in let long = longer in omega arith);
@@ -115,11 +115,11 @@ module _ (g : Ground) (l : Layout) (states : List State) (s : State) (bucket : �
         (λ same. subst (λ j. (lower_in l ws' j ≡ 0) × (upper_in l ws' j ≡ first_word g (state_in l ws' j))) (sym same)
         (put.lower n room ∙ (made.others n room unpublished).0, put.upper ∙ ap (first_word g) (sym put.state)))
         (λ other.
-            let before = published_before i other there in
-            let below = made.only i before in
-            let old = made.published i before in
-            let inside : i < l.ids = omega arith in
-            (put.lower i inside ∙ old.0, put.other_upper i inside other ∙ (old.1 ∙ ap (first_word g) (sym (put.other_states i below)))));
+        let before = published_before i other there in
+        let below = made.only i before in
+        let old = made.published i before in
+        let inside : i < l.ids = omega arith in
+        (put.lower i inside ∙ old.0, put.other_upper i inside other ∙ (old.1 ∙ ap (first_word g) (sym (put.other_states i below)))));
     others = λ i below not.
         let other : i ≢ n = λ same. not (subst (IsPublished l ws') (sym same) published_now) in
         let old = made.others i below (λ there. not (published_still i there)) in
