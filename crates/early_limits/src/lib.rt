@@ -5,5 +5,7 @@
 mod actions;
 mod counts;
 mod early;
+mod laws;
 
 pub use early::early_limits;
+pub use laws::limit_laws;
