@@ -1,0 +1,71 @@
+//! The shared words.
+
+ghost use Rattle.std.specs.Prelude.{◌≡◌};
+
+use crate::key::{Key, Rule};
+use atomic_table::Table;
+use ground_model::GroundProblem;
+use std::alloc::Global;
+use std::marker::Model;
+use word_layout::Layout;
+use word_view::View;
+
+/// The shared words of a problem. Contracts see the problem, the layout, how many claim rights there are,
+/// and which table it is.
+#[derive(Drop)]
+pub struct Words<'p> {
+    pub(crate) problem: &'p GroundProblem,
+    pub(crate) layout: Layout,
+    pub(crate) rights: u32,
+    pub(crate) table: Table<(), View, Key<'p>, Rule, Global>,
+}
+
+impl<'p> Model for Words<'p> {
+    ghost use Rattle.std.specs.Prelude.{◌≡◌};
+    ghost use Rattle.std.specs.Coded.{codes};
+    ghost use Rattle.ground_model.specs.contracts.condition.GroundCondition as condition;
+    ghost use Rattle.word_layout.specs.Places as places;
+    ghost use Rattle.word_rule.specs.Rule.{IsTable};
+    ghost use Rattle.word_table.specs.Seen.{Board, board};
+
+    ghost Value = { Board };
+
+    ghost coded = { Prim.hlevel (codes, condition.the_row.coded) };
+
+    ghost view = { λ w. board w.problem.now w.layout w.rights w.table.shared.table_id };
+
+    ghost invariant = { λ w. IsTable w.problem.now w.layout
+        × (w.table.shared.table_id.words ≡ places.size w.layout) × (w.table.shared.table_id.slots ≡ 0)
+        × (w.table.shared.key.problem.now ≡ w.problem.now) × (w.table.shared.key.layout ≡ w.layout)
+        × (w.table.shared.key.rights ≡ w.rights) };
+}
+
+impl<'p> Words<'p> {
+    /// The problem.
+    pub fn problem(&self) -> &'p GroundProblem
+        ensures { result.now ≡ self.now.problem }
+    {
+        self.problem
+    }
+
+    /// The number of ids.
+    pub fn ids(&self) -> u32
+        ensures { result ≡ self.now.layout.ids }
+    {
+        self.layout.ids
+    }
+
+    /// The number of buckets.
+    pub fn buckets(&self) -> u32
+        ensures { result ≡ self.now.layout.buckets }
+    {
+        self.layout.buckets
+    }
+
+    /// The number of words of a state.
+    pub fn width(&self) -> u32
+        ensures { result ≡ self.now.layout.width }
+    {
+        self.layout.width
+    }
+}
