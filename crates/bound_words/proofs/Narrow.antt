@@ -1,0 +1,38 @@
+-- What was noted last is noted.
+use Rattle.std.proofs.Common.{◌≡◌, ℕ, ◌≤◌, nat_eq, ◌∷◌, refl, sym, subst, arith}
+use Rattle.std.proofs.lemmas.Bool.{eq-eqb}
+use Rattle.fixed_round.specs.Words.{word_of, value_of, code_of}
+use Rattle.decision_process.specs.Least.{CoversFromAbove}
+use Rattle.ground_model.specs.Ground.{Ground}
+use Rattle.ground_model.specs.Steps.{ground_process}
+use Rattle.bound_core.specs.Numbers.{quit_word}
+use Rattle.word_view.specs.declared.view.View.{View}
+use Rattle.word_view.specs.Views.{number, noted_lower, noted_upper}
+use Rattle.word_view.specs.Steps.{with_lower, with_upper, with_lower_load}
+use Rattle.word_view.proofs.Lists.{is_first}
+use Rattle.word_rule.specs.Told.{TellsLower, TellsUpper, IsWorth}
+use Rattle.bound_words.specs.Intervals.{TellsInterval}
+use Rattle.word_view.proofs.Seen.{greatest_over, least_under}
+
+pub raised_is_noted : (v : View) (id n : ℕ) → n ≤ noted_lower (with_lower v id n) id
+raised_is_noted v id n = greatest_over (λ i. nat_eq i id) (number id n ∷ v.lower) (number id n) (is_first (number id n) v.lower) (eq-eqb id id refl)
+
+pub loaded_is_noted : (v : View) (id n : ℕ) → n ≤ noted_lower (with_lower_load v id n) id
+loaded_is_noted v id n = greatest_over (λ i. nat_eq i id) (number id n ∷ v.lower) (number id n) (is_first (number id n) v.lower) (eq-eqb id id refl)
+
+pub sunk_is_noted : (v : View) (id x : ℕ) → noted_upper (with_upper v id x) id ≤ x
+sunk_is_noted v id x = least_under (λ i. nat_eq i id) (quit_word v.problem.penalty) (number id x ∷ v.upper) (number id x) (is_first (number id x) v.upper) (eq-eqb id id refl)
+
+-- both loads of a reading
+pub interval_is_told : (g : Ground) (v : View) (id n word value code : ℕ) → TellsLower g v id n → TellsUpper g (with_lower_load v id n) id word
+    → value ≡ value_of word → code ≡ code_of word → TellsInterval g v id (record { lower = n; upper = value; code = code })
+interval_is_told g v id n word value code low high values codes =
+    let is : word_of value code ≡ word = omega arith in
+    let quit = high.within_quit in record {
+      lower_narrower = low.narrower;
+      upper_narrower = subst (λ x. x ≤ noted_upper v id) (sym is) high.narrower;
+      ordered = (let seen = loaded_is_noted v id n in let above = high.ordered in omega arith);
+      within_quit = omega arith;
+      covers = λ s has. (low.covers s has, subst (λ x. CoversFromAbove (ground_process g) x s) (sym values) (high.worth s has).covers);
+      worth = λ s has. subst (IsWorth g s) (sym is) (high.worth s has);
+    }
