@@ -1,2 +1,4 @@
 mod Allowed
 mod Calls
+mod Turns
+mod Filling

@@ -5,6 +5,7 @@
 mod claimed;
 mod ids;
 mod key;
+mod making;
 mod numbers;
 mod pass;
 mod plays;
@@ -14,6 +15,7 @@ mod words;
 pub use claimed::Claim;
 pub use ids::{claim, load_bucket, load_count, load_word, publish, write_word};
 pub use key::{Key, Rule};
+pub use making::make;
 pub use numbers::{load_lower, load_upper, max_lower, min_upper};
 pub use pass::Pass;
 pub use seats::{join, meet, split};
