@@ -1,0 +1,13 @@
+//! The initial states of a task: all ways in which the `probabilistic` items of `:init` may go, merged
+//! where they are equal, within the limits.
+#![tactic(auto)]
+
+mod answering;
+mod denominators;
+mod growing;
+mod items;
+mod packing;
+mod states;
+
+pub use answering::ground_starts;
+pub use states::InitialStates;
