@@ -2,3 +2,4 @@ mod Allowed
 mod Calls
 mod Turns
 mod Filling
+mod Ending

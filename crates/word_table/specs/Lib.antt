@@ -1,3 +1,4 @@
 pub mod Seen
 pub mod Made
 pub mod Plays
+pub mod Closed

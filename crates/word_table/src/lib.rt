@@ -3,12 +3,14 @@
 #![tactic(auto)]
 
 mod claimed;
+mod closing;
 mod ids;
 mod key;
 mod making;
 mod numbers;
 mod pass;
 mod plays;
+mod room;
 mod seats;
 mod words;
 

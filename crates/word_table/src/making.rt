@@ -32,7 +32,7 @@ fn width(problem: &GroundProblem) -> u32
 }
 
 /// The upper word of a state of which nothing is known.
-fn first_word(problem: &GroundProblem, state: &State) -> UpperWord
+pub(crate) fn first_word(problem: &GroundProblem, state: &State) -> UpperWord
     ensures { result ≡ first_word problem.now state.now }
 {
     if is_goal(problem, state) {

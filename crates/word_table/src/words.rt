@@ -35,7 +35,8 @@ impl<'p> Model for Words<'p> {
     ghost view = { λ w. board w.problem.now w.layout w.rights w.table.shared.table_id };
 
     ghost invariant = { λ w. IsTable w.problem.now w.layout
-        × (w.table.shared.table_id.words ≡ places.size w.layout) × (w.table.shared.table_id.slots ≡ 0)
+        × (w.table.shared.table_id.words ≡ places.size w.layout)
+        × (w.table.shared.table_id.slots ≡ 0)
         × (w.table.shared.key.problem.now ≡ w.problem.now) × (w.table.shared.key.layout ≡ w.layout)
         × (w.table.shared.key.rights ≡ w.rights) };
 }

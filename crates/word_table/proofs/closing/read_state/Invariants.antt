@@ -1,0 +1,11 @@
+-- The words before this place are read.
+use Rattle.std.proofs.Common.{◌≡◌, ◌<◌, ℕ}
+use Rattle.std.specs.Prelude.{get_or, length}
+use Rattle.std.specs.Mem.Slots.{slots_items}
+use Rattle.word_layout.specs.Places.{state_at}
+use Rattle.word_rule.specs.Words.{word}
+use Rattle.word_table.proofs.closing.read_state.Given as goal
+
+abbrev pub invariant-loop-place : goal.invariant-loop-place
+invariant-loop-place l = (length l.words.items ≡ l.layout.width)
+    × ((k : ℕ) → k < l.place → get_or l.words.items k 0 ≡ word (slots_items l.closed.words) (state_at l.layout l.id k))
