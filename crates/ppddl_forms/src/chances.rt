@@ -70,10 +70,7 @@ impl Chances {
 /// Reads a probability behind those of the same `probabilistic`. It is refused where the least common
 /// multiple of their denominators is out of range, and else where they sum to more than 1.
 #[tactic(auto, using(crate::proofs::Steps::form_steps), unfolding(crate::specs::Chances::next_chance))]
-pub fn read_chance(
-    cursor: &mut Cursor<'_>,
-    chances: &mut Chances,
-) -> Result<Fraction, TextRefusal>
+pub fn read_chance(cursor: &mut Cursor<'_>, chances: &mut Chances) -> Result<Fraction, TextRefusal>
     ensures gives { ReadsOne (next_chance chances.old) cursor.old cursor.new result }
     ensures fewer { OnOk result (size cursor.new < size cursor.old) }
     ensures added { IfOk result (λ chance. chances.new ≡ chances.old ++ chance ∷ []) }
