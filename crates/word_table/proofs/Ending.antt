@@ -264,6 +264,8 @@ module _ (g : Ground) (l : Layout) (most : ℕ) (s : Table) (k : ℕ) (v : View)
     ids = ids_in l s.words l.ids;
     sound = holds.core.1;
     rows = rows_shown;
+    others = λ t none. holds.core.2.words.others t
+        (λ id there same. none id (holds.core.2.words.published id there ∙ ap Some same));
     given = sym holds.core.2.words.given;
     within = (
       (let same = holds.core.2.words.given in let few = holds.words.given in omega arith),

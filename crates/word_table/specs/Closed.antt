@@ -10,9 +10,10 @@
 --     IsRoom l room              memory for a row of each id, with its state
 --     IsRow c id row             the row shows the id's state and its numbers in the core
 --     AreRows c ids rows         the rows show the published ids, in rising order
---     IsImage b v image          the image shows a sound core, in which no number is wider than the pass had seen; no more ids are given
---                                out than the table has, and all but the rights' number of them are published
-use Rattle.std.specs.Prelude.{◌≡◌, ℕ, zero, suc, ◌+◌, ◌<◌, ◌≤◌, min, Bool, true, false, ◌||◌, nat_eq, Some}
+--     IsImage b v image          the image shows a sound core, in which no number is wider than the pass had seen, and states without
+--                                an id are at their first numbers; no more ids are given out than the table has, and all but the
+--                                rights' number of them are published
+use Rattle.std.specs.Prelude.{◌≡◌, ◌≢◌, ℕ, zero, suc, ◌+◌, ◌<◌, ◌≤◌, min, Bool, true, false, ◌||◌, nat_eq, Some}
 use Rattle.std.specs.Prelude.{List, [], length, map, filter, get_or, All, Contains, AllPairs}
 use Rattle.std.specs.Prelude.{vec_len, vec_capacity}
 use Rattle.std.specs.List.{slice_get, range_with_len}
@@ -86,6 +87,8 @@ pub record IsImage (b : Board) (v : View) (image : Image) : Type 0 where
   pub ids : List ℕ
   pub sound : Sound b.problem core
   pub rows : AreRows core ids image.rows
+  pub others : (s : State) → ((id : ℕ) → core.state_of id ≢ Some s)
+      → (core.lower s ≡ 0) × (core.upper s ≡ first_word b.problem s)
   pub given : image.given_out ≡ core.given
   pub within : (core.given ≤ b.layout.ids) × (v.count ≤ core.given)
   pub published : core.given ≤ length image.rows + b.most
