@@ -1,10 +1,11 @@
--- What holds of each certificate that is balanced for a ground problem, as statements.
+-- What holds of each certificate, and of each that is balanced for a ground problem, as statements.
+--     RowsDiffer             no two rows are of one state
 --     BalancedEncloses       no finite plans cost less than the interval's lower end on average, and the first n steps of the
 --                            certificate's acts cost at most its upper end, for every n
 --     PolicyEnds             from each state, n times the least cost of a choice times the chance that the acts go on after n steps
 --                            is at most the state's upper value
 use Rattle.std.specs.Prelude.{ℕ, Option, ◌*◌, ◌^◌, ◌≤◌}
-use Rattle.certificate.specs.Content.{Content}
+use Rattle.certificate.specs.Content.{Content, IsCertificate}
 use Rattle.decision_process.specs.Enclosing.{Encloses}
 use Rattle.decision_process.specs.Policies.{still}
 use Rattle.decision_process.specs.Readings as readings
@@ -16,6 +17,9 @@ use Rattle.certificate_check.specs.Claims.{rows_of, high_in, IsBalancedFor}
 
 abbrev pub act_in : Ground → Content → State → Option ℕ
 act_in g c s = readings.act same_state (rows_of g c c.rows) s
+
+abbrev pub RowsDiffer : Type 0
+RowsDiffer = (g : Ground) (c : Content) → IsCertificate c → readings.HasDistinctStates (rows_of g c c.rows)
 
 abbrev pub BalancedEncloses : Type 0
 BalancedEncloses = (g : Ground) → IsGroundProblem g → (c : Content) → IsBalancedFor g c

@@ -1,9 +1,11 @@
-//! What an accepted certificate says.
+//! What a certificate says, and one that is accepted.
 
-ghost use Rattle.certificate_check.specs.Laws.{BalancedEncloses, PolicyEnds};
+ghost use Rattle.certificate_check.specs.Laws.{RowsDiffer, BalancedEncloses, PolicyEnds};
 
-/// The interval of a balanced certificate encloses the cost, and its policy ends.
+/// No two rows are of one state; the interval of a balanced certificate encloses the cost, and its policy
+/// ends.
 pub fn check_laws()
+    ensures distinct { RowsDiffer }
     ensures encloses { BalancedEncloses }
     ensures ends { PolicyEnds }
 {}
