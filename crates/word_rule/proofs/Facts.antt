@@ -6,24 +6,28 @@ use Rattle.std.specs.Option.{unwrap_or}
 use Rattle.std.proofs.lemmas.Bool.{and_parts, eqb-true}
 use Rattle.std.proofs.lemmas.List.{get_or-set_same, get_or-set_other}
 use Rattle.std.proofs.lemmas.List.Elements.{All-contains, All-head, All-tail}
+use Rattle.std.proofs.lemmas.List.FromFn.{get_or-map-range_with_len}
+use mathlib.Core.Logic.{dite}
+use native.Mathlib.Decide.{ℕ_discrete, dec_le}
 use mathlib.Core.Option.{some}
 use lib.ListN.{get_elem?}
 use Rattle.atomic_table.proofs.Lists.{at_set}
 use Rattle.ground_model.specs.Ground.{Ground}
 use Rattle.ground_model.specs.Packed.{State}
+use Rattle.ground_step.specs.Hash.{hash_of}
 use Rattle.bound_core.specs.Numbers.{first_word}
 use Rattle.bound_core.specs.Core.{Sight, Core, ended, sight_at, IsLive, Knows}
 use Rattle.bound_core.specs.Core as core
 use Rattle.bound_core.specs.Sound.{Sound}
 use Rattle.word_layout.specs.declared.layout.Layout.{Layout}
-use Rattle.word_layout.specs.Places.{state_at}
+use Rattle.word_layout.specs.Places.{state_at, turn}
 use Rattle.word_view.specs.declared.notes.StateWord.{StateWord}
 use Rattle.word_view.specs.declared.view.View.{View}
-use Rattle.word_view.specs.Views.{knows, state_word, is_word, has_word, has_words, has_state, seen_lower, seen_upper}
+use Rattle.word_view.specs.Views.{knows, held, state_word, is_word, has_word, has_words, has_state, seen_lower, seen_upper, IsOther, IsClear}
 use Rattle.word_view.proofs.Lists.{one_of}
 use Rattle.word_view.proofs.Seen.{seen_lower_is_greatest, seen_upper_is_least}
-use Rattle.word_rule.specs.Words.{Table, word, given_in, state_in, IsPublished}
-use Rattle.word_rule.specs.Rule.{IsStateWord, IsBelow, IsAbove, IsShownBy, Shows, ShowsWords}
+use Rattle.word_rule.specs.Words.{Table, word, given_in, held_in, state_in, IsPublished, AreWords}
+use Rattle.word_rule.specs.Rule.{IsHeld, IsStateWord, IsBelow, IsAbove, IsShownBy, Shows, ShowsWords}
 use Rattle.word_rule.specs.Laws.{Sits}
 use Rattle.word_rule.proofs.Lists.{inside}
 
@@ -68,6 +72,29 @@ module _ (g : Ground) (l : Layout) (ws : List ℕ) where
   seen_upper_within w v t problem layout h = seen_upper_is_least v t (w.upper t)
       (subst (λ (p : Ground). w.upper t ≤ first_word p t) (sym problem) (h.first t))
       (λ n there has. subst (λ u. w.upper u ≤ n.number) (sym (state_is w v n.id t layout h has)) (All-contains (IsAbove g l ws w.upper) v.upper n h.upper there).seen)
+
+  -- no published id has a state in whose run an empty bucket comes behind buckets of other states
+  pub none_published : (w : Sight) (v : View) (t : State) (bucket : ℕ) → v.layout ≡ l → AreWords g l ws → IsShownBy g l ws w v
+      → IsClear v t bucket → held_in ws bucket ≡ 0 → (id : ℕ) → IsPublished l ws id → state_in l ws id ≢ t
+  none_published w v t bucket layout words h clear empty id (b, below, here) same =
+      let run = words.run b id below here in
+      let m : ℕ = clear.turns in
+      let free : held_in ws (turn l (hash_of t) m) ≡ 0 = ap (held_in ws) (subst (λ (a : Layout). turn a (hash_of t) m ≡ bucket) layout clear.here) ∙ empty in
+      let at : turn l (hash_of t) run.turns ≡ b = subst (λ u. turn l (hash_of u) run.turns ≡ b) same run.here in
+      dite (dec_le m run.turns)
+      (λ le. dite (ℕ_discrete m run.turns)
+      (λ equal. let full : held_in ws (turn l (hash_of t) m) ≡ id + 1 = ap (held_in ws) (ap (turn l (hash_of t)) equal ∙ at) ∙ here in omega arith)
+      (λ less. run.taken m (omega arith) (ap (λ u. held_in ws (turn l (hash_of u) m)) same ∙ free)))
+      (λ gt.
+      let o : IsOther v (turn l (hash_of t) run.turns) t
+      = subst (λ (a : Layout). IsOther v (turn a (hash_of t) run.turns) t) layout (clear.others run.turns (omega arith)) in
+      let found = (All-contains (IsHeld g l ws) v.held (held (turn l (hash_of t) run.turns) o.id) h.held o.found).here in
+      let moved : held_in ws b ≡ o.id + 1 = ap (held_in ws) (sym at) ∙ found in
+      let ids : o.id ≡ id = omega arith in
+      let noted = noted_word (IsStateWord g l ws) v.words o.id o.place o.word h.words o.noted in
+      let there : get_or (state_in l ws id) o.place 0 ≡ word ws (state_at l id o.place)
+      = get_or-map-range_with_len (λ p. word ws (state_at l id p)) 0 l.width o.place o.place 0 noted.place (omega arith) in
+      o.differs (sym noted.here ∙ (ap (λ j. word ws (state_at l j o.place)) ids ∙ (sym there ∙ ap (λ u. get_or u o.place 0) same))))
 
 -- ---- the core
 

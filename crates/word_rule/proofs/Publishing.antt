@@ -6,9 +6,8 @@ use Rattle.std.specs.List.{range_with_len}
 use Rattle.std.proofs.lemmas.Bool.{cases_Bool, eq-eqb, ne_eqb}
 use Rattle.std.proofs.lemmas.List.{length-set, get_or-set_same, get_or-set_other}
 use Rattle.std.proofs.lemmas.List.Elements.{All-nil, All-cons, All-append, All-contains, All-weaker}
-use Rattle.std.proofs.lemmas.List.FromFn.{get_or-map-range_with_len}
 use mathlib.Core.Logic.{dite}
-use native.Mathlib.Decide.{ℕ_discrete, dec_le}
+use native.Mathlib.Decide.{ℕ_discrete}
 use Rattle.plain_list.proofs.Members.{Contains-nil, Contains-map_cases, Contains-flat_map_cases}
 use Rattle.decision_process.specs.Process.{Outcome}
 use Rattle.decision_process.specs.Levels.{nexts, successors}
@@ -38,7 +37,7 @@ use Rattle.word_rule.specs.Laws as laws
 use Rattle.word_rule.specs.Laws.{with_word, IsStep, Sits}
 use Rattle.word_rule.proofs.Lists.{map_range_same, total_set, holders_set, taken_more}
 use Rattle.word_rule.proofs.Words.{Later, published_later, shown_later, held_later, state_words_later, below_later, above_later}
-use Rattle.word_rule.proofs.Facts.{own, lives, knows_in_core, known_is_published, spare_is_given, spare_is_unpublished, state_is, noted_word, views_after}
+use Rattle.word_rule.proofs.Facts.{own, lives, knows_in_core, known_is_published, spare_is_given, spare_is_unpublished, state_is, none_published, views_after}
 
 -- ---- states
 
@@ -179,24 +178,7 @@ module _ (g : Ground) (l : Layout) (most : ℕ) (s : Table) (k : ℕ) (v : View)
 
     -- no published state is the new one
     fresh : (i : ℕ) → IsPublished l ws i → state_in l ws i ≢ t
-    fresh i (b, below, here) same =
-        let run = sits.holds.words.run b i below here in
-        let at : turn l (hash_of t) run.turns ≡ b = subst (λ u. turn l (hash_of u) run.turns ≡ b) same run.here in
-        let full : held_in ws b ≢ 0 = λ z. omega arith in
-        let m : ℕ = can.clear.turns in
-        dite (dec_le m run.turns)
-        (λ le. dite (ℕ_discrete m run.turns)
-        (λ equal. full (ap (held_in ws) (sym at ∙ (ap (turn l (hash_of t)) (sym equal) ∙ clear_here)) ∙ empty))
-        (λ less. run.taken m (omega arith) (ap (λ u. held_in ws (turn l (hash_of u) m)) same ∙ (ap (held_in ws) clear_here ∙ empty))))
-        (λ gt.
-        let o = clear_other run.turns (omega arith) in
-        let found = (All-contains (IsHeld g l ws) v.held (held (turn l (hash_of t) run.turns) o.id) mine.held o.found).here in
-        let moved : held_in ws b ≡ o.id + 1 = ap (held_in ws) (sym at) ∙ found in
-        let ids : o.id ≡ i = omega arith in
-        let noted = noted_word (IsStateWord g l ws) v.words o.id o.place o.word mine.words o.noted in
-        let there : get_or (state_in l ws i) o.place 0 ≡ word ws (state_at l i o.place)
-        = get_or-map-range_with_len (λ p. word ws (state_at l i p)) 0 l.width o.place o.place 0 noted.place (omega arith) in
-        o.differs (sym noted.here ∙ (ap (λ j. word ws (state_at l j o.place)) ids ∙ (sym there ∙ ap (λ u. get_or u o.place 0) same))))
+    fresh i there same = none_published g l ws w v t bucket sits.view.layout sits.holds.words mine can.clear empty i there same
 
     words_now : AreWords g l ws'
     words_now = let old = sits.holds.words in record {

@@ -28,7 +28,7 @@ use Rattle.word_rule.specs.Told.{IsWorth, HasRoom}
 use Rattle.word_rule.specs.Laws as laws
 use Rattle.word_rule.specs.Laws.{Sits}
 use Rattle.word_rule.proofs.Lists.{pigeons}
-use Rattle.word_rule.proofs.Facts.{own, known_is_published, is_given, state_is, one_id, noted_word}
+use Rattle.word_rule.proofs.Facts.{own, known_is_published, is_given, state_is, none_published, one_id, noted_word}
 
 value_rises : (a b : ℕ) → a ≤ b → value_of a ≤ value_of b
 value_rises a b below = omega arith
@@ -169,6 +169,14 @@ module _ (g : Ground) (l : Layout) (most : ℕ) where
   pub held_is_told : laws.HeldIsTold g l most
   held_is_told s k v sits = (published_within g l most s k v sits, room g l most s k v sits)
 
+  pub empty_is_told : laws.EmptyIsTold g l most
+  empty_is_told s k v bucket sits empty id t has clear =
+      let c = sits.holds.core in
+      let w = sight_at g c.0 k in
+      let mine = own g l most s k v sits c.0 c.1 c.2 in
+      let is = state_is g l s.words w v id t sits.view.layout mine has in
+      none_published g l s.words w v t bucket sits.view.layout sits.holds.words mine clear empty id (had_is_published g l most s k v sits id t has) (sym is)
+
   pub states_are_told : laws.StatesAreTold g l most
   states_are_told s k v sits i j t first second =
       let c = sits.holds.core in
@@ -178,3 +186,10 @@ module _ (g : Ground) (l : Layout) (most : ℕ) where
       let is' = state_is g l s.words w v j t sits.view.layout mine second in
       one_id g l s.words c.0 c.1 c.2.words i j
       (had_is_published g l most s k v sits i t first) (had_is_published g l most s k v sits j t second) (sym is ∙ is')
+
+  pub one_state_is_told : laws.OneStateIsTold g l most
+  one_state_is_told s k v sits id t u first second =
+      let c = sits.holds.core in
+      let w = sight_at g c.0 k in
+      let mine = own g l most s k v sits c.0 c.1 c.2 in
+      state_is g l s.words w v id t sits.view.layout mine first ∙ sym (state_is g l s.words w v id u sits.view.layout mine second)

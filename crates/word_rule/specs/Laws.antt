@@ -11,7 +11,7 @@
 --     HeldLoadIsAStep, EmptyLoadIsAStep, StateLoadIsAStep, PublishIsAStep, SplitIsAStep, OneRightIsAStep, JoinIsAStep,
 --     RightsJoinIsAStep
 --                                the kinds of step; an exchange that is refused is a look at what it found
---     LowerIsTold, UpperIsTold, CountIsTold, HeldIsTold, StatesAreTold
+--     LowerIsTold, UpperIsTold, CountIsTold, HeldIsTold, EmptyIsTold, StatesAreTold, OneStateIsTold
 --                                what a step tells its own pass
 use Rattle.std.specs.Prelude.{List, length, AllPairs, Contains}
 use Rattle.std.specs.Prelude.{◌≡◌, ◌≢◌, ℕ, ◌+◌, ◌<◌, ◌≤◌, min, max, true, Some, None}
@@ -40,7 +40,8 @@ use Rattle.word_view.specs.Steps.{united, richer, spent, first_view}
 use Rattle.word_rule.specs.Words.{Table, word, given_in, held_in, lower_in, upper_in, AreWords}
 use Rattle.word_rule.specs.Rule.{Shows, AreRights, IsTable, Holds}
 use Rattle.word_rule.specs.Made.{AreMade, IsPut}
-use Rattle.word_rule.specs.Told.{TellsLower, TellsUpper, TellsCount, HasRoom, HasOneEach}
+use Rattle.word_rule.specs.Told.{TellsLower, TellsUpper, TellsCount, TellsNone}
+use Rattle.word_rule.specs.Told.{HasRoom, HasOneEach, HasOneState}
 
 pub record IsViewOf (g : Ground) (l : Layout) (v : View) : Type 0 where
   pub live : v.live ≡ true
@@ -197,5 +198,12 @@ module _ (g : Ground) (l : Layout) (most : ℕ) where
   HeldIsTold = (s : Table) (k : ℕ) (v : View) → Sits s k v
       → ((bucket : ℕ) → bucket < l.buckets → held_in s.words bucket ≤ l.ids) × HasRoom v
 
+  abbrev pub EmptyIsTold : Type 0
+  EmptyIsTold = (s : Table) (k : ℕ) (v : View) (bucket : ℕ) → Sits s k v
+      → held_in s.words bucket ≡ 0 → TellsNone v bucket
+
   abbrev pub StatesAreTold : Type 0
   StatesAreTold = (s : Table) (k : ℕ) (v : View) → Sits s k v → HasOneEach v
+
+  abbrev pub OneStateIsTold : Type 0
+  OneStateIsTold = (s : Table) (k : ℕ) (v : View) → Sits s k v → HasOneState v

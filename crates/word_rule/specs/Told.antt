@@ -4,8 +4,11 @@
 --     IsWorth g s word           the word bounds the cost from s, and its act is worth its value
 --     TellsUpper g v id word     the same of the upper word
 --     TellsCount v n             n, found as the count of ids given out
+--     TellsNone v bucket         the bucket was found empty: the view has no id with a state in whose run the bucket comes behind buckets
+--                                of other states
 --     HasRoom v                  not each bucket of a run was found taken
 --     HasOneEach v               ids that the view has with one state are one id
+--     HasOneState v              states that the view has one id with are one state
 use Rattle.std.specs.Prelude.{◌≡◌, ◌⊎◌, ℕ, ◌<◌, ◌≤◌, true, false, IsTrue}
 use Rattle.std.specs.Prelude.{Contains}
 use Rattle.fixed_round.specs.Words.{value_of}
@@ -17,7 +20,7 @@ use Rattle.bound_core.specs.Numbers.{goal_word, quit_word}
 use Rattle.bound_core.specs.Laws.{IsActOfWord}
 use Rattle.word_layout.specs.Places.{turn}
 use Rattle.word_view.specs.declared.view.View.{View}
-use Rattle.word_view.specs.Views.{held, has_state, noted_lower, noted_upper}
+use Rattle.word_view.specs.Views.{held, has_state, noted_lower, noted_upper, IsClear}
 
 pub record TellsLower (g : Ground) (v : View) (id n : ℕ) : Type 0 where
   pub narrower : noted_lower v id ≤ n
@@ -42,6 +45,9 @@ pub record TellsCount (v : View) (n : ℕ) : Type 0 where
   pub greater : v.count ≤ n
   pub within : n ≤ v.layout.ids
 
+abbrev pub TellsNone : View → ℕ → Type 0
+TellsNone v bucket = (id : ℕ) (s : State) → IsTrue (has_state v id s) → IsClear v s bucket → ⊥
+
 abbrev pub HasRoom : View → Type 0
 HasRoom v = (hash : ℕ) → ((k : ℕ) → k < v.layout.buckets
     → (id : ℕ) × Contains v.held (held (turn v.layout hash k) id)) → ⊥
@@ -49,3 +55,7 @@ HasRoom v = (hash : ℕ) → ((k : ℕ) → k < v.layout.buckets
 abbrev pub HasOneEach : View → Type 0
 HasOneEach v = (i j : ℕ) (s : State) → IsTrue (has_state v i s) → IsTrue (has_state v j s)
     → i ≡ j
+
+abbrev pub HasOneState : View → Type 0
+HasOneState v = (id : ℕ) (s t : State) → IsTrue (has_state v id s) → IsTrue (has_state v id t)
+    → s ≡ t

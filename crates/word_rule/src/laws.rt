@@ -9,7 +9,8 @@ ghost use Rattle.word_rule.specs.Laws.{RaiseIsAStep, SinkIsAStep, CountLoadIsASt
 ghost use Rattle.word_rule.specs.Laws.{WriteIsAStep, HeldLoadIsAStep, EmptyLoadIsAStep};
 ghost use Rattle.word_rule.specs.Laws.{StateLoadIsAStep, PublishIsAStep};
 ghost use Rattle.word_rule.specs.Laws.{SplitIsAStep, OneRightIsAStep, JoinIsAStep, RightsJoinIsAStep};
-ghost use Rattle.word_rule.specs.Laws.{LowerIsTold, UpperIsTold, CountIsTold, HeldIsTold, StatesAreTold};
+ghost use Rattle.word_rule.specs.Laws.{LowerIsTold, UpperIsTold, CountIsTold};
+ghost use Rattle.word_rule.specs.Laws.{HeldIsTold, EmptyIsTold, StatesAreTold, OneStateIsTold};
 
 /// The rule holds of a table as it is made.
 pub fn made_laws()
@@ -43,5 +44,7 @@ pub fn told_laws()
     ensures upper { (g : Ground) (l : Layout) (most : ℕ) → UpperIsTold g l most }
     ensures count { (g : Ground) (l : Layout) (most : ℕ) → CountIsTold g l most }
     ensures held { (g : Ground) (l : Layout) (most : ℕ) → HeldIsTold g l most }
+    ensures empty { (g : Ground) (l : Layout) (most : ℕ) → EmptyIsTold g l most }
     ensures states { (g : Ground) (l : Layout) (most : ℕ) → StatesAreTold g l most }
+    ensures one_state { (g : Ground) (l : Layout) (most : ℕ) → OneStateIsTold g l most }
 {}

@@ -21,7 +21,7 @@ use Rattle.word_view.specs.Views.{knows, CanRaise, CanSink, CanPublish}
 use Rattle.word_view.specs.Steps.{with_lower_load, with_upper_load, with_lower, with_upper, with_count, with_spare, with_written, with_held, with_empty, with_state_word, with_published, without_rights, with_one_right, less_one_right, united, richer, spent}
 use Rattle.word_rule.specs.Words.{Table, word, given_in, held_in, lower_in, upper_in}
 use Rattle.word_rule.specs.Rule.{Holds}
-use Rattle.word_rule.specs.Told.{TellsLower, TellsUpper, HasRoom}
+use Rattle.word_rule.specs.Told.{TellsLower, TellsUpper, TellsNone, HasRoom}
 use Rattle.word_rule.specs.Laws.{IsViewOf, IsStep, Sits, with_view, with_word}
 use Rattle.word_rule.proofs.Lists.{inside}
 use Rattle.word_rule.proofs.Looks.{lower_load_is_a_step, upper_load_is_a_step, count_load_is_a_step, held_load_is_a_step, empty_load_is_a_step, state_load_is_a_step}
@@ -29,7 +29,7 @@ use Rattle.word_rule.proofs.Numbers.{raise_is_a_step, sink_is_a_step}
 use Rattle.word_rule.proofs.Ids.{step_keeps_the_rule, claim_is_a_step, write_is_a_step}
 use Rattle.word_rule.proofs.Publishing.{publish_is_a_step}
 use Rattle.word_rule.proofs.Seats.{split_is_a_step, one_right_is_a_step, join_is_a_step, rights_join_is_a_step}
-use Rattle.word_rule.proofs.Told.{lower_is_told, upper_is_told, count_is_told, held_is_told, states_are_told}
+use Rattle.word_rule.proofs.Told.{lower_is_told, upper_is_told, count_is_told, held_is_told, empty_is_told, states_are_told, one_state_is_told}
 use Rattle.word_table.specs.Plays.{Mine, Finds, lower_loaded, upper_loaded, lower_raised, upper_sunk, counted, claimed, wrote, looked, put, read}
 
 abbrev Same : Mine → Mine → Type 0
@@ -247,7 +247,11 @@ module _ (g : Ground) (l : Layout) (most : ℕ) (slots k : ℕ) (me : Mine) (vie
         empty_load_is_a_step g l most s k me.0 bucket sits,
         record { live = view.live; problem = view.problem; layout = view.layout },
         (λ sits' b there. (
-          (λ _. ap (λ c. (with_empty me.0 c, me.1)) (let same : bucket ≡ b = omega arith in same)),
+          (λ _.
+              let same : bucket ≡ b = omega arith in (
+                ap (λ c. (with_empty me.0 c, me.1)) same,
+                subst (TellsNone me.0) same (empty_is_told g l most s k me.0 bucket sits (sym at ∙ empty)),
+              )),
           (λ id e. absurd (omega arith)),
           (held_is_told g l most (with_view s k (with_empty me.0 bucket)) k (with_empty me.0 bucket) sits').1,
         )),
@@ -297,6 +301,7 @@ module _ (g : Ground) (l : Layout) (most : ℕ) (slots k : ℕ) (me : Mine) (vie
             let same = state_words_differ l id j place p small less' e in (
               ap (λ x. (with_state_word me.0 id place x, me.1)) (ap (word s.words) (sym is)) ∙ ap (λ x. (with_state_word me.0 x place (word s.words i), me.1)) same.0 ∙ ap (λ x. (with_state_word me.0 j x (word s.words i), me.1)) same.1,
               states_are_told g l most (with_view s k w) k w sits',
+              one_state_is_told g l most (with_view s k w) k w sits',
             )),
       ))
 

@@ -1,7 +1,7 @@
 -- What a table holds when it is closed.
-use Rattle.std.proofs.Common.{◌≡◌, ◌≢◌, ◌⊎◌, ℕ, zero, suc, ◌+◌, ◌-◌, ◌<◌, ◌≤◌, Bool, true, false, cond, ◌||◌, nat_eq, List, [], ◌∷◌, ◌++◌, length, map, Some, None, refl, sym, ap, ◌∙◌, subst, inl, inr, arith}
-use Rattle.std.specs.Prelude.{Option, get_or, filter, All, AllPairs, Contains}
-use Rattle.std.specs.List.{slice_get, range_with_len}
+use Rattle.std.proofs.Common.{◌≡◌, ◌≢◌, ℕ, zero, suc, ◌+◌, ◌-◌, ◌<◌, ◌≤◌, Bool, true, false, cond, ◌||◌, nat_eq, List, [], ◌∷◌, ◌++◌, length, map, Some, None, refl, sym, ap, ◌∙◌, subst, inl, inr, arith}
+use Rattle.std.specs.Prelude.{Option, filter, All, AllPairs, Contains}
+use Rattle.std.specs.List.{range_with_len}
 use Rattle.std.specs.Option.{option_map}
 use Rattle.std.proofs.lemmas.Bool.{cases_Bool, false≢true, eq-eqb, ne_eqb, eqb-true, or_left, or_right}
 use Rattle.std.proofs.lemmas.List.{length-append, length-map, map-append, get_or_append_left}
@@ -17,15 +17,13 @@ use lib.ListN.{get_elem?}
 use Rattle.atomic_table.specs.Table.{Final, Seen}
 use Rattle.atomic_table.specs.Seated.{TableId}
 use Rattle.ground_model.specs.Ground.{Ground}
-use Rattle.ground_model.specs.Packed.{State}
 use Rattle.ground_model.proofs.Steps.{slice_get-contains}
 use Rattle.bound_core.specs.declared.image.ImageRow.{ImageRow}
 use Rattle.bound_core.specs.Core.{Core, sight_at}
-use Rattle.bound_core.specs.Sound.{Sound}
 use Rattle.word_layout.specs.declared.layout.Layout.{Layout}
 use Rattle.word_view.specs.declared.view.View.{View}
-use Rattle.word_rule.specs.Words.{Table, word, given_in, held_in, IsPublished}
-use Rattle.word_rule.specs.Rule.{Holds, Shows, IsShownBy, total, holders, one_if_some, taken_below}
+use Rattle.word_rule.specs.Words.{Table, word, held_in, IsPublished}
+use Rattle.word_rule.specs.Rule.{Holds, IsShownBy, total, holders, one_if_some, taken_below}
 use Rattle.word_rule.specs.Laws.{IsViewOf, Sits}
 use Rattle.word_rule.proofs.Lists.{taken, taken_one}
 use Rattle.word_rule.proofs.Facts.{seen_lower_within, seen_upper_within, published_there}

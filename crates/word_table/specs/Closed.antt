@@ -13,7 +13,7 @@
 --     IsImage b v image          the image shows a sound core, in which no number is wider than the pass had seen, and states without
 --                                an id are at their first numbers; no more ids are given out than the table has, and all but the
 --                                rights' number of them are published
-use Rattle.std.specs.Prelude.{◌≡◌, ◌≢◌, ℕ, zero, suc, ◌+◌, ◌<◌, ◌≤◌, min, Bool, true, false, ◌||◌, nat_eq, Some}
+use Rattle.std.specs.Prelude.{◌≡◌, ◌≢◌, ℕ, zero, suc, ◌+◌, ◌<◌, ◌≤◌, min, Bool, false, ◌||◌, nat_eq, Some}
 use Rattle.std.specs.Prelude.{List, [], length, map, filter, get_or, All, Contains, AllPairs}
 use Rattle.std.specs.Prelude.{vec_len, vec_capacity}
 use Rattle.std.specs.List.{slice_get, range_with_len}

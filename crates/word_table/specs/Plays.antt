@@ -7,7 +7,8 @@ use Rattle.word_view.specs.declared.view.View.{View}
 use Rattle.word_view.specs.Steps.{with_lower_load, with_upper_load, with_lower, with_upper, with_count}
 use Rattle.word_view.specs.Steps.{with_spare, with_written, with_held, with_empty, with_state_word}
 use Rattle.word_view.specs.Steps.{with_published}
-use Rattle.word_rule.specs.Told.{TellsLower, TellsUpper, TellsCount, HasRoom, HasOneEach}
+use Rattle.word_rule.specs.Told.{TellsLower, TellsUpper, TellsCount, TellsNone}
+use Rattle.word_rule.specs.Told.{HasRoom, HasOneEach, HasOneState}
 
 abbrev pub Mine : Type 0
 Mine = Me (Unit {0}) View
@@ -50,7 +51,8 @@ Finds m bucket n m' = (id : ℕ) → n ≡ id + 1
 
 abbrev pub looked : Told
 looked st m n m' = (bucket : ℕ) → st.word ≡ bucket_at bucket
-    → (n ≡ 0 → m' ≡ (with_empty m.0 bucket, m.1)) × Finds m bucket n m' × HasRoom m'.0
+    → (n ≡ 0 → (m' ≡ (with_empty m.0 bucket, m.1)) × TellsNone m.0 bucket)
+    × Finds m bucket n m' × HasRoom m'.0
 
 abbrev pub put : Told
 put st m n m' = (bucket : ℕ) → st.word ≡ bucket_at bucket
@@ -59,4 +61,4 @@ put st m n m' = (bucket : ℕ) → st.word ≡ bucket_at bucket
 abbrev pub read : Told
 read st m n m' = (id place : ℕ) → place < m.0.layout.width
     → st.word ≡ state_at m.0.layout id place
-    → (m' ≡ (with_state_word m.0 id place n, m.1)) × HasOneEach m'.0
+    → (m' ≡ (with_state_word m.0 id place n, m.1)) × HasOneEach m'.0 × HasOneState m'.0

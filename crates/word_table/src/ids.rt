@@ -4,7 +4,7 @@ ghost use Rattle.std.specs.Prelude.{◌≡◌, ◌≢◌, ◌<◌, ◌≤◌, �
 ghost use Rattle.ground_model.specs.Packed.{State};
 ghost use Rattle.word_view.specs.Views.{knows, CanPublish};
 ghost use Rattle.word_view.specs.Steps.{with_count, with_written, with_state_word};
-ghost use Rattle.word_rule.specs.Told.{TellsCount, HasRoom, HasOneEach};
+ghost use Rattle.word_rule.specs.Told.{TellsCount, TellsNone, HasRoom, HasOneEach, HasOneState};
 ghost use Rattle.word_table.specs.Seen.{knowledge, IsOf, ClaimTells, HoldsId, FindsEmpty, HasPublished};
 
 use crate::claimed::Claim;
@@ -61,6 +61,7 @@ pub fn load_bucket(words: &Words<'_>, pass: &mut Pass, bucket: u32) -> Option<u3
     requires bucket { bucket < words.now.layout.buckets }
     ensures some { IfSome result (λ id. HoldsId words.now pass.old bucket id pass.new) }
     ensures none { IfNone result (FindsEmpty pass.old bucket pass.new) }
+    ensures told { IfNone result (TellsNone pass.old.view bucket) }
     ensures room { HasRoom pass.new.view }
 {
     let found = words
@@ -102,6 +103,7 @@ pub fn load_word(words: &Words<'_>, pass: &mut Pass, id: u32, place: u32) -> u64
     requires known { knows pass.old.view id × (place < words.now.layout.width) }
     ensures seen { pass.new ≡ knowledge pass.old.table (with_state_word pass.old.view id place result) }
     ensures one { HasOneEach pass.new.view }
+    ensures state { HasOneState pass.new.view }
 {
     words
         .table

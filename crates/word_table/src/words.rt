@@ -1,6 +1,7 @@
 //! The shared words.
 
 ghost use Rattle.std.specs.Prelude.{◌≡◌};
+ghost use Rattle.word_rule.specs.Rule.{IsTable};
 
 use crate::key::{Key, Rule};
 use atomic_table::Table;
@@ -51,21 +52,24 @@ impl<'p> Words<'p> {
 
     /// The number of ids.
     pub fn ids(&self) -> u32
-        ensures { result ≡ self.now.layout.ids }
+        ensures value { result ≡ self.now.layout.ids }
+        ensures table { IsTable self.now.problem self.now.layout }
     {
         self.layout.ids
     }
 
     /// The number of buckets.
     pub fn buckets(&self) -> u32
-        ensures { result ≡ self.now.layout.buckets }
+        ensures value { result ≡ self.now.layout.buckets }
+        ensures table { IsTable self.now.problem self.now.layout }
     {
         self.layout.buckets
     }
 
     /// The number of words of a state.
     pub fn width(&self) -> u32
-        ensures { result ≡ self.now.layout.width }
+        ensures value { result ≡ self.now.layout.width }
+        ensures table { IsTable self.now.problem self.now.layout }
     {
         self.layout.width
     }

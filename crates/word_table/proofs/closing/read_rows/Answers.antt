@@ -1,5 +1,5 @@
-use Rattle.std.proofs.Common.{◌≡◌, ◌+◌, ◌∷◌, ◌++◌, [], ◌∙◌, false, true, Vec, ℕ, Global, length, refl, sym, ap, subst, arith, rules}
-use Rattle.std.specs.Prelude.{All, vec_len}
+use Rattle.std.proofs.Common.{◌≡◌, ◌∷◌, ◌++◌, [], ◌∙◌, false, true, Vec, ℕ, Global, length, sym, ap, arith, rules}
+use Rattle.std.specs.Prelude.{vec_len}
 use Rattle.std.specs.Option.{option_to_list}
 use Rattle.std.specs.Mem.Slots.{slots_items}
 use Rattle.std.proofs.lemmas.List.{length-append}

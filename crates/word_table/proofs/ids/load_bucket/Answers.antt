@@ -1,8 +1,9 @@
 use Rattle.std.proofs.Common.{◌<◌, ◌-◌, sym, ap, subst, arith, rules}
 use Rattle.word_layout.specs.declared.layout.Layout.{Layout}
 use Rattle.word_view.specs.Steps.{with_empty}
+use Rattle.word_rule.specs.Told.{TellsNone}
 use Rattle.word_table.specs.Plays.{Mine}
-use Rattle.word_table.specs.Seen.{Board}
+use Rattle.word_table.specs.Seen.{Board, Knowledge}
 use Rattle.word_table.proofs.Allowed.{look_allowed}
 use Rattle.word_table.proofs.Calls.{same_table, view_of_key, seen_after, kept_after, bucket_is_a_word, holds_id, id_fits, looked_within}
 use Rattle.word_table.proofs.ids.load_bucket.Goals as goal
@@ -22,12 +23,17 @@ pub invariant_of-pass : goal.invariant_of-pass
 invariant_of-pass c =
     let i = c.pass.invariant in
     let told = c.load-found.ensures.2 c.args.bucket c.bucket.ensures in
-    kept_after c.pass.inside.seat.me c.load-found.new.seat.me _ _ (told.0 c.if-found-eq0.true) i.0 i.1 record { known = i.2.known; spare = i.2.spare }
+    kept_after c.pass.inside.seat.me c.load-found.new.seat.me _ _ (told.0 c.if-found-eq0.true).0 i.0 i.1 record { known = i.2.known; spare = i.2.spare }
 
 pub returns-then-found-eq0-clause-none : goal.returns-then-found-eq0-clause-none
 returns-then-found-eq0-clause-none c =
     let told = c.load-found.ensures.2 c.args.bucket c.bucket.ensures in
-    seen_after _ _ _ _ _ (λ u. with_empty u c.args.bucket) c.pass.view_is c.load-found.ensures.0 (ap (λ (m : Mine). m.0) (told.0 c.if-found-eq0.true))
+    seen_after _ _ _ _ _ (λ u. with_empty u c.args.bucket) c.pass.view_is c.load-found.ensures.0 (ap (λ (m : Mine). m.0) (told.0 c.if-found-eq0.true).0)
+
+pub returns-then-found-eq0-clause-told : goal.returns-then-found-eq0-clause-told
+returns-then-found-eq0-clause-told c =
+    let told = c.load-found.ensures.2 c.args.bucket c.bucket.ensures in
+    subst (λ (k : Knowledge). TellsNone k.view c.args.bucket) c.pass.view_is (told.0 c.if-found-eq0.true).1
 
 pub returns-then-found-eq0-clause-room : goal.returns-then-found-eq0-clause-room
 returns-then-found-eq0-clause-room c = (c.load-found.ensures.2 c.args.bucket c.bucket.ensures).2

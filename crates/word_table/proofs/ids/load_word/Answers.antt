@@ -41,3 +41,9 @@ returns-clause-one c =
     let v = own_view _ _ _ _ _ _ _ _ c.words.view_is c.pass.view_is c.requires.here in
     let small = subst (λ (m : Layout). c.args.place < m.width) (sym (v.layout ∙ ap (λ (b : Board). b.layout) c.words.view_is)) c.requires.known.1 in
     (c.load.ensures.2 c.args.id c.args.place small (c.state_word.ensures ∙ ap (λ l. state_at l c.args.id c.args.place) (sym v.layout))).1
+
+pub returns-clause-state : goal.returns-clause-state
+returns-clause-state c =
+    let v = own_view _ _ _ _ _ _ _ _ c.words.view_is c.pass.view_is c.requires.here in
+    let small = subst (λ (m : Layout). c.args.place < m.width) (sym (v.layout ∙ ap (λ (b : Board). b.layout) c.words.view_is)) c.requires.known.1 in
+    (c.load.ensures.2 c.args.id c.args.place small (c.state_word.ensures ∙ ap (λ l. state_at l c.args.id c.args.place) (sym v.layout))).2

@@ -1,11 +1,11 @@
-use Rattle.std.proofs.Common.{◌≡◌, ◌∙◌, ℕ, List, sym, ap, subst, rules}
+use Rattle.std.proofs.Common.{ℕ, sym, subst}
 use Rattle.std.specs.Mem.Slots.{slots_items}
 use Rattle.atomic_table.specs.Table.{Final, Seen}
 use Rattle.ground_model.specs.Ground.{Ground}
 use Rattle.bound_core.specs.declared.image.Image.{Image}
 use Rattle.word_layout.specs.declared.layout.Layout.{Layout}
 use Rattle.word_rule.specs.Rule.{Holds}
-use Rattle.word_table.specs.Seen.{Board, Knowledge, board}
+use Rattle.word_table.specs.Seen.{Board, Knowledge}
 use Rattle.word_table.specs.Closed.{IsImage, image_in}
 use Rattle.word_table.proofs.Calls.{own_view}
 use Rattle.word_table.proofs.Ending.{final_closed, final_image}
