@@ -1,0 +1,5 @@
+mod Going
+mod Words
+mod Turns
+mod Claims
+mod Meeting

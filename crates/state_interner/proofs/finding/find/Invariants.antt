@@ -1,0 +1,7 @@
+-- The buckets of the turns so far hold other states.
+use Rattle.std.proofs.Common.{◌≡◌}
+use Rattle.state_interner.proofs.Turns.{Walks}
+use Rattle.state_interner.proofs.finding.find.Given as goal
+
+abbrev pub invariant-loop-turn : goal.invariant-loop-turn
+invariant-loop-turn l = Walks l.words l.fn.pass l.pass l.state l.turn × (l.pass.view.spare ≡ l.fn.pass.view.spare)
