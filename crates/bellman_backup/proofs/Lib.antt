@@ -1,0 +1,11 @@
+pub mod Keeping
+pub mod WordsRead
+pub mod NextRead
+pub mod Summing
+pub mod Choosers
+pub mod Narrowing
+pub mod Answering
+pub mod Stepping
+pub mod Finishing
+pub mod Racers
+pub mod StartWeights

@@ -1,0 +1,18 @@
+//! One backup of a state of the shared table: the bounds of the states that may follow are read, and the
+//! state's own bounds are narrowed by the Bellman equation.
+#![tactic(auto)]
+
+mod backing;
+mod best;
+mod choosing;
+mod outcomes;
+mod racing;
+mod scratch;
+mod states;
+mod steps;
+mod sums;
+
+pub use backing::backup;
+pub use brtdp_trial::{Backed, Step};
+pub use racing::Racing;
+pub use scratch::Scratch;

@@ -1,0 +1,73 @@
+//! What a choice leads to.
+
+ghost use Rattle.std.specs.Prelude.{◌≡◌, ◌<◌, length};
+ghost use Rattle.word_view.specs.Views.{IsReached};
+ghost use Rattle.word_table.specs.Seen.{IsOf};
+ghost use Rattle.bellman_backup.specs.Backups.{Keeps};
+ghost use Rattle.bellman_backup.specs.Totals.{HasReadAction, HasReadNext, IsUsable};
+
+use crate::states::first_upper;
+use crate::steps::Steps;
+use crate::sums::Sums;
+use bound_words::interval;
+use brtdp_trial::Step;
+use ground_model::{Choice, GroundAction, State};
+use ground_step::apply;
+use state_interner::{Interned, intern};
+use word_table::{Pass, Words};
+
+/// A choice that leads to a state, with what is read of that state.
+fn read_next(words: &Words<'_>, pass: &mut Pass, weight: u64, next: &State) -> Step
+    requires here { IsOf words.now pass.old }
+    requires right { 0 < pass.old.view.rights }
+    requires reached { IsReached pass.old.view next.now }
+    ensures keeps { Keeps words.now pass.old pass.new }
+    ensures read { HasReadNext words.now.problem pass.old.view pass.new.view next.now weight result }
+{
+    match intern(words, pass, next) {
+        Interned::Id(id) => {
+            let found = interval(words, pass, id);
+            Step {
+                weight,
+                id: Some(id),
+                lower: found.lower,
+                upper: found.upper,
+            }
+        }
+        Interned::Full => Step {
+            weight,
+            id: None,
+            lower: 0,
+            upper: first_upper(words.problem(), next),
+        },
+    }
+}
+
+/// Reads the outcomes of an action in a state: the choices as they were read, and the sums over them.
+pub(crate) fn read_action(
+    words: &Words<'_>,
+    pass: &mut Pass,
+    action: &GroundAction,
+    state: &State,
+    next: &mut State,
+    steps: &mut Steps,
+) -> Sums
+    requires here { IsOf words.now pass.old }
+    requires right { 0 < pass.old.view.rights }
+    requires action { IsUsable words.now.problem pass.old.view state.now action.now }
+    requires fits { length next.old ≡ length state.now }
+    ensures keeps { Keeps words.now pass.old pass.new }
+    ensures fits { length next.new ≡ length state.now }
+    ensures read { let g = words.now.problem
+        in HasReadAction g pass.old.view pass.new.view state.now action.now steps.new result }
+{
+    steps.clear();
+    let mut sums = Sums::ZERO;
+    for choice in action.choices.as_slice() {
+        let cost = apply(choice, state, next);
+        let step = read_next(words, pass, choice.weight, next);
+        sums = sums.with(cost, &step);
+        steps.push(step);
+    }
+    sums
+}

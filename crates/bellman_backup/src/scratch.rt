@@ -1,0 +1,78 @@
+//! What a backup writes to.
+
+ghost use Rattle.std.specs.Prelude.{◌≡◌, ◌<◌, Some, length, IfOk};
+ghost use Rattle.std.specs.List.{slice_get};
+ghost use Rattle.bound_core.specs.Core.{width};
+ghost use Rattle.bellman_backup.specs.Scratches.{new_scratch};
+
+use crate::steps::Steps;
+use brtdp_trial::{GIVE_UP, Step};
+use ground_model::{GroundProblem, List, State};
+use open_actions::{OpenActions, OpenCodes};
+use std::alloc::{AllocError, Global};
+use std::marker::Model;
+
+/// Buffers of the problem's greatest sizes, so that a backup takes no memory, and the index of its actions.
+/// Contracts see the problem and what the last backup answered, with the choices as they were read.
+#[derive(Drop)]
+pub struct Scratch<'p> {
+    pub(crate) index: OpenActions<'p>,
+    pub(crate) open_codes: OpenCodes,
+    pub(crate) state: State,
+    pub(crate) next: State,
+    pub(crate) tried: Steps,
+    pub(crate) chosen: Steps,
+    pub(crate) code: u16,
+    pub(crate) den: u64,
+}
+
+impl<'p> Model for Scratch<'p> {
+    ghost use Rattle.std.specs.Prelude.{◌≡◌};
+    ghost use Rattle.std.specs.Coded.{codes};
+    ghost use Rattle.ground_model.specs.contracts.condition.GroundCondition as condition;
+    ghost use Rattle.brtdp_trial.specs.Listed.{last_in};
+    ghost use Rattle.bellman_backup.specs.Scratches.{ScratchView, AreBuffers};
+
+    ghost Value = { ScratchView };
+
+    ghost coded = { Prim.hlevel (codes, condition.the_row.coded) };
+
+    ghost view = { λ s. record { problem = s.index; last = last_in s.code s.den s.chosen } };
+
+    ghost invariant = { λ s. AreBuffers s.index s.open_codes s.state s.next };
+}
+
+/// A state of the problem's length.
+fn blank_state(alloc: Global, problem: &GroundProblem) -> Result<State, AllocError>
+    ensures { IfOk result (λ state. length state ≡ width problem.now) }
+{
+    let words = problem.atoms().len().div_ceil(64).max(1);
+    let words = vec![in alloc; 0u64; words]?;
+    Ok(State::from_words(List::from_vec(words)))
+}
+
+impl<'p> Scratch<'p> {
+    /// A scratch for backups over words of the problem. It is refused for want of memory alone.
+    pub fn make(alloc: Global, problem: &'p GroundProblem) -> Result<Self, AllocError>
+        ensures { IfOk result (λ scratch. scratch ≡ new_scratch problem.now) }
+    {
+        Ok(Scratch {
+            index: OpenActions::new(alloc, problem)?,
+            open_codes: OpenCodes::new(alloc, problem)?,
+            state: blank_state(alloc, problem)?,
+            next: blank_state(alloc, problem)?,
+            tried: Steps::new(alloc)?,
+            chosen: Steps::new(alloc)?,
+            code: GIVE_UP,
+            den: 1,
+        })
+    }
+
+    /// One choice of the action that the last backup answered, as that backup read it.
+    pub fn step_of(&self, index: u32) -> Step
+        requires { index < length self.now.last.steps }
+        ensures { slice_get self.now.last.steps index ≡ Some result }
+    {
+        self.chosen.get(index)
+    }
+}

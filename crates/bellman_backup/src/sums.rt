@@ -1,0 +1,61 @@
+//! Sums over the choices of an action.
+
+ghost use Rattle.std.specs.Prelude.{◌≡◌, ◌<◌, ◌≤◌, ◌+◌, ◌*◌, ◌/◌, ◌^◌, min};
+ghost use Rattle.std.specs.Int.{div_ceil};
+ghost use Rattle.fixed_round.specs.Words.{word_of, value_of};
+ghost use Rattle.bellman_backup.specs.Totals.{IsSmallStep};
+
+use brtdp_trial::Step;
+use fixed_round::UpperWord;
+
+/// The sums of weight times cost and number read, of lower numbers and of upper ones.
+#[derive(Clone, Copy)]
+pub(crate) struct Sums {
+    pub lower: u128,
+    pub upper: u128,
+}
+
+impl Sums {
+    /// The sums over no choice.
+    pub(crate) const ZERO: Sums = Sums { lower: 0, upper: 0 };
+
+    /// The sums with one choice more.
+    pub(crate) fn with(self, cost: u64, step: &Step) -> Sums
+        requires room { (self.lower < 2 ^ 127) × (self.upper < 2 ^ 127) }
+        requires small { IsSmallStep cost step.now }
+        ensures lower { result.lower ≡ self.lower + step.now.weight * (cost + step.now.lower) }
+        ensures upper { result.upper ≡ self.upper + step.now.weight * (cost + step.now.upper) }
+    {
+        let weight = u128::from(step.weight);
+        Sums {
+            lower: self.lower + weight * u128::from(cost + step.lower),
+            upper: self.upper + weight * u128::from(cost + step.upper),
+        }
+    }
+}
+
+/// The smaller of a bound and a mean, rounded down. It is compared before it is divided.
+pub(crate) fn lesser(bound: u64, sum: u128, den: u64) -> u64
+    requires { 0 < den }
+    ensures { result ≡ min (sum / den) bound }
+{
+    if sum < u128::from(bound) * u128::from(den) {
+        (sum / u128::from(den)) as u64
+    } else {
+        bound
+    }
+}
+
+/// The smaller of a bound and the word of an action's mean, rounded up. It is compared before it is divided.
+pub(crate) fn lesser_word(bound: UpperWord, sum: u128, den: u64, code: u16) -> UpperWord
+    requires den { 0 < den }
+    requires bound { value_of bound ≤ 11 * 10 ^ 13 }
+    ensures { result ≡ min (word_of (div_ceil sum den) code) bound }
+{
+    if sum <= u128::from(bound.value()) * u128::from(den) {
+        let word = UpperWord::pack(sum.div_ceil(u128::from(den)) as u64, code);
+        if word.is_below(bound) { word } else { bound }
+    } else {
+        bound
+    }
+}
