@@ -1,0 +1,5 @@
+pub mod Options
+pub mod Parsing
+pub mod Ranges
+pub mod Found
+pub mod Requests

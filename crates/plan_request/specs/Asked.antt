@@ -1,0 +1,117 @@
+-- What the words of a command line ask for. `given` is what stands under a name: the value of an option,
+-- without its hyphens, or a positional word.
+--     Sources, sources_of given    the texts of a task and the terms on which it is read
+--     Solving, solving_of given    a task to solve, the name of its certificate, and the search
+--     effort_of given, sizes_of given
+--                                  when the search ends and what its trials are, and its sizes
+--     Asked                        a request
+--     asked_as command given       what a command asks for
+--     given_in f items             what stands under a name in words in form
+--     request_of words             the request of the words behind the program's name, if they have one
+-- Amounts are in micro-units, a millionth of a unit.
+use Rattle.std.specs.Prelude.{ℕ, ◌-◌, ◌^◌, min, List, Option, Some, None, option_map, position, slice_get, codes}
+use Rattle.std.specs.Str.{bytes_eq}
+use Rattle.command_words.specs.Words.{Text, Item, positionals_of, value_of}
+use Rattle.command_words.specs.Table.{Form}
+use Rattle.command_words.specs.Scans.{formed}
+use Rattle.plan_request.specs.declared.command.Command.{Command}
+use Rattle.plan_request.specs.declared.command.Command.TheVariants.{Solve, Check, Serve, Ground, Bench}
+use Rattle.plan_request.specs.declared.effort.Effort.{Effort}
+use Rattle.plan_request.specs.declared.sizes.Sizes.{Sizes}
+use Rattle.plan_request.specs.Numbers.{◌>>=◌, whole, amount, unless_given}
+use Rattle.plan_request.specs.Commands.{command_named}
+
+abbrev pub Given : Type 0
+Given = Text → Option Text
+
+-- ---- the parts of requests
+
+pub record Sources : Type 0 where
+  pub domain : Text
+  pub problem : Option Text
+  pub penalty : Option ℕ
+  pub step_cost : ℕ
+
+-- none is given, or one from a micro-unit to 10^8 units
+unfoldable pub penalty_of : Option Text → Option (Option ℕ)
+penalty_of = unless_given None (λ text. option_map Some (amount 1 (10 ^ 14) text))
+
+unfoldable pub sources_of : Given → Option Sources
+sources_of given = do
+  domain ← given (codes "DOMAIN")
+  penalty ← penalty_of (given (codes "penalty"))
+  step_cost ← unless_given 0 (amount 0 (10 ^ 12)) (given (codes "step-cost"))
+  Some (record { domain = domain; problem = given (codes "problem"); penalty = penalty; step_cost = step_cost })
+
+unfoldable pub effort_of : Given → Option Effort
+effort_of given = do
+  gap ← unless_given 1000 (amount 0 (10 ^ 14)) (given (codes "gap"))
+  rounds ← unless_given 1000 (whole 0 100000) (given (codes "rounds"))
+  trials ← unless_given 64 (whole 0 4096) (given (codes "trials"))
+  depth ← unless_given 1000 (whole 1 10000) (given (codes "depth"))
+  tau ← unless_given 10 (whole 1 1000) (given (codes "tau"))
+  seed ← unless_given 1 (whole 0 (2 ^ 64 - 1)) (given (codes "seed"))
+  Some (record { gap = gap; rounds = rounds; trials = trials; depth = depth; tau = tau; seed = seed })
+
+unfoldable pub sizes_of : Given → Option Sizes
+sizes_of given = do
+  workers ← unless_given 4 (whole 1 16) (given (codes "workers"))
+  states ← unless_given 65536 (whole 65 262144) (given (codes "states"))
+  sweep_states ← unless_given (min 4096 (states - 1)) (whole 64 (states - 1)) (given (codes "sweep-states"))
+  Some (record { workers = workers; states = states; sweep_states = sweep_states })
+
+pub record Solving : Type 0 where
+  pub sources : Sources
+  pub certificate : Text
+  pub effort : Effort
+  pub sizes : Sizes
+
+unfoldable pub solving_of : Given → Option Solving
+solving_of given = do
+  sources ← sources_of given
+  certificate ← given (codes "cert")
+  effort ← effort_of given
+  sizes ← sizes_of given
+  Some (record { sources = sources; certificate = certificate; effort = effort; sizes = sizes })
+
+-- ---- requests
+
+pub data Asked : Type 0 where
+  to_solve : Solving → Asked
+  to_check : Sources → Text → Asked
+  to_serve : Solving → Asked
+  to_ground : Sources → Asked
+  -- the places, and the seed
+  to_bench : ℕ → ℕ → Asked
+
+unfoldable pub checked_of : Given → Option Asked
+checked_of given = do
+  sources ← sources_of given
+  certificate ← given (codes "cert")
+  Some (to_check sources certificate)
+
+unfoldable pub benched_of : Given → Option Asked
+benched_of given = do
+  places ← given (codes "N") >>= whole 2 1000
+  seed ← given (codes "SEED") >>= whole 0 (2 ^ 64 - 1)
+  Some (to_bench places seed)
+
+abbrev pub asked_as : Command → Given → Option Asked
+asked_as Solve given = option_map to_solve (solving_of given)
+asked_as Check given = checked_of given
+asked_as Serve given = option_map to_serve (solving_of given)
+asked_as Ground given = option_map to_ground (sources_of given)
+asked_as Bench given = benched_of given
+
+abbrev pub asked_by : Text → Given → Option Asked
+asked_by name given = command_named name >>= λ command. asked_as command given
+
+abbrev pub given_at : List Item → Text → Option ℕ → Option Text
+given_at items name (Some i) = slice_get (positionals_of items) i
+given_at items name None = value_of name items
+
+abbrev pub given_in : Form → List Item → Given
+given_in f items name = given_at items name (position (λ n. bytes_eq n name) f.words)
+
+unfoldable pub request_of : List Text → Option Asked
+request_of words = formed words >>= λ (f, items). asked_by f.name (given_in f items)

@@ -1,0 +1,46 @@
+-- Worked examples, which compute.
+use Rattle.std.specs.Prelude.{◌≡◌, ◌^◌, [], ◌∷◌, Some, None, codes}
+use Rattle.std.proofs.Common.{refl}
+use Rattle.plan_request.specs.Numbers.{whole, amount}
+use Rattle.plan_request.specs.Commands.{command_named}
+use Rattle.plan_request.specs.Asked.{penalty_of, sources_of, effort_of, sizes_of, solving_of, checked_of, benched_of, request_of}
+use Rattle.plan_request.specs.Asked.{to_check, to_bench}
+
+leading-zeros : whole 2 1000 (codes "0002") ≡ Some 2
+unfolding whole
+leading-zeros = refl
+
+twenty-one-digits : whole 0 100 (codes "000000000000000000001") ≡ None
+unfolding whole
+twenty-one-digits = refl
+
+one-and-a-half : amount 1 (10 ^ 14) (codes "1.5") ≡ Some 1500000
+unfolding amount
+one-and-a-half = refl
+
+no-penalty-of-zero : amount 1 (10 ^ 14) (codes "0") ≡ None
+unfolding amount
+no-penalty-of-zero = refl
+
+-- `--cert` is wanted
+solve-coin : request_of (codes "solve" ∷ codes "coin" ∷ []) ≡ None
+unfolding request_of command_named solving_of sources_of penalty_of amount
+solve-coin = refl
+
+check-coin : request_of (codes "check" ∷ codes "coin" ∷ codes "--cert=c" ∷ codes "--penalty" ∷ codes "2" ∷ [])
+    ≡ Some (to_check (record { domain = codes "coin"; problem = None; penalty = Some 2000000; step_cost = 0 }) (codes "c"))
+unfolding request_of command_named checked_of sources_of penalty_of amount
+check-coin = refl
+
+negative-gap : request_of (codes "solve" ∷ codes "coin" ∷ codes "--cert" ∷ codes "c" ∷ codes "--gap" ∷ codes "-1" ∷ []) ≡ None
+unfolding request_of
+negative-gap = refl
+
+-- as many states swept as the table holds
+all-swept : request_of (codes "solve" ∷ codes "coin" ∷ codes "--cert" ∷ codes "c" ∷ codes "--states" ∷ codes "65" ∷ codes "--sweep-states" ∷ codes "65" ∷ []) ≡ None
+unfolding request_of command_named solving_of sources_of penalty_of effort_of sizes_of whole amount
+all-swept = refl
+
+bench-two : request_of (codes "bench" ∷ codes "0002" ∷ codes "4" ∷ []) ≡ Some (to_bench 2 4)
+unfolding request_of command_named benched_of whole
+bench-two = refl

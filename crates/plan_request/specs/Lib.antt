@@ -1,0 +1,6 @@
+pub mod Numbers
+pub mod Commands
+pub mod Asked
+pub mod Shown
+pub mod Laws
+pub mod Examples

@@ -1,0 +1,37 @@
+-- What contracts see of the values of the code.
+use Rattle.std.specs.Prelude.{option_map}
+use Rattle.command_words.specs.declared.parsing.Parsed.{Parsed}
+use Rattle.command_words.specs.Parses.{value_in}
+use Rattle.plan_request.specs.declared.sources.Sources.{Sources}
+use Rattle.plan_request.specs.declared.solving.Solving.{Solving}
+use Rattle.plan_request.specs.declared.request.Request.{Request}
+use Rattle.plan_request.specs.declared.request.Request.TheVariants as request
+use Rattle.plan_request.specs.Asked as asked
+use Rattle.plan_request.specs.Asked.{Asked, Given, to_solve, to_check, to_serve, to_ground, to_bench}
+
+-- what clap found
+abbrev pub given_by : Parsed → Given
+given_by p name = value_in name p
+
+abbrev pub shown_sources : Sources → asked.Sources
+shown_sources s = record {
+  domain = s.domain.now;
+  problem = option_map (λ p. p.now) s.problem;
+  penalty = s.penalty;
+  step_cost = s.step_cost;
+}
+
+abbrev pub shown_solving : Solving → asked.Solving
+shown_solving s = record {
+  sources = shown_sources s.sources;
+  certificate = s.certificate.now;
+  effort = s.effort;
+  sizes = s.sizes;
+}
+
+abbrev pub shown_request : Request → Asked
+shown_request (request.Solve s) = to_solve (shown_solving s)
+shown_request (request.Check s f) = to_check (shown_sources s) f.now
+shown_request (request.Serve s) = to_serve (shown_solving s)
+shown_request (request.Ground s) = to_ground (shown_sources s)
+shown_request (request.Bench places seed) = to_bench places seed

@@ -1,0 +1,40 @@
+//! What a command asks for that solves a task.
+
+ghost use Rattle.std.specs.Prelude.{◌≡◌, option_map};
+ghost use Rattle.plan_request.specs.Asked.{solving_of};
+ghost use Rattle.plan_request.specs.Shown.{shown_solving, given_by};
+
+use crate::effort::{Effort, effort_of};
+use crate::sizes::{Sizes, sizes_of};
+use crate::sources::{Sources, sources_of};
+use command_words::Parsed;
+
+/// A task to solve, the name under which its certificate goes, and the search.
+#[derive(Clone, Copy, Debug)]
+pub struct Solving<'a> {
+    /// The task.
+    pub sources: Sources<'a>,
+    /// The name of the certificate.
+    pub certificate: &'a str,
+    /// When the search ends, and what its trials are.
+    pub effort: Effort,
+    /// The sizes of the search.
+    pub sizes: Sizes,
+}
+
+/// What the words of a command that solves ask for.
+#[tactic(auto, unfolding(crate::specs::Asked::solving_of))]
+pub(crate) fn solving_of<'a>(parsed: &Parsed<'a>) -> Option<Solving<'a>>
+    ensures { option_map shown_solving result ≡ solving_of (given_by parsed.now) }
+{
+    let sources = sources_of(parsed)?;
+    let certificate = parsed.value("cert")?;
+    let effort = effort_of(parsed)?;
+    let sizes = sizes_of(parsed)?;
+    Some(Solving {
+        sources,
+        certificate,
+        effort,
+        sizes,
+    })
+}
