@@ -1,0 +1,4 @@
+pub mod Objects
+pub mod Items
+pub mod Laws
+pub mod Examples
