@@ -1,0 +1,14 @@
+pub mod Tests
+pub mod Under
+pub mod Atoms
+pub mod Trees
+pub mod Growth
+pub mod Variables
+pub mod Conditions
+pub mod Effects
+pub mod Declared
+pub mod Problem
+pub mod Reading
+pub mod Agreeing
+pub mod Objects
+pub mod Items
