@@ -1,0 +1,5 @@
+pub mod Refusing
+pub mod Limiting
+pub mod Totals
+pub mod Ending
+pub mod Standing

@@ -1,0 +1,11 @@
+-- The charges of a task.
+--     IsCharged task terms penalty   no action may cost nothing, and the charges that are asked for have this penalty
+use Rattle.std.specs.Prelude.{◌≡◌, ℕ, None, Some}
+use Rattle.ppddl_model.specs.declared.tree.Task.{Task}
+use Rattle.ppddl_model.specs.Steps.{Terms, charges_of}
+use Rattle.task_charges.specs.Charges.{charged_with}
+use Rattle.grounding.specs.Limits.{free_action}
+
+pub record IsCharged (task : Task) (terms : Terms) (penalty : ℕ) : Type 0 where
+  pub none_free : free_action task terms ≡ None
+  pub charges : charges_of terms task ≡ Some (charged_with terms.step_cost penalty)

@@ -1,0 +1,5 @@
+pub mod Answers
+pub mod Charged
+pub mod Limited
+pub mod Named
+pub mod Parts

@@ -1,0 +1,45 @@
+//! The ground problem of a task.
+
+ghost use Rattle.std.specs.Prelude.{IfOk};
+ghost use Rattle.ppddl_model.specs.WellFormed.{IsWellFormed};
+ghost use Rattle.grounding.specs.Laws.{AreInRange};
+ghost use Rattle.grounding.specs.Limits.{grounded};
+ghost use Rattle.grounder.specs.Answers.{terms_of, Answers, StandsFor};
+
+use crate::charging::charge;
+use crate::parts::{Ends, Parts, parts_within};
+use crate::terms::Terms;
+use ground_model::GroundProblem;
+use ground_starts::InitialStates;
+use grounding::{GroundRefusal, grounding_laws};
+use ppddl_model::Task;
+use std::alloc::Global;
+use task_charges::base_cost;
+use task_facts::TaskFacts;
+
+/// The ground problem of a well-formed task, for a penalty and a step cost in range. Refused is, in this
+/// order, an action that may cost nothing, a task with neither a penalty nor a goal reward, and the first
+/// quantity that is above its limit: objects; instances that are tried; for each action its denominator and
+/// the sizes of its tried preconditions; for each kept instance the ground actions so far, its effect's
+/// size, its joint choices, their costs, and the effect's size once more for each further choice; the
+/// goal's size; atoms; the denominator of the initial states and their number.
+pub fn ground(alloc: Global, task: &Task, terms: &Terms) -> Result<GroundProblem, GroundRefusal>
+    requires well_formed { IsWellFormed task.now }
+    requires in_range { AreInRange (terms_of terms.now) }
+    ensures exact { Answers result (grounded task.now (terms_of terms.now)) }
+    ensures stands { IfOk result (λ g. StandsFor g task.now (terms_of terms.now)) }
+{
+    grounding_laws();
+    let facts = TaskFacts::make(alloc, task)?;
+    let base = base_cost(task, terms.step_cost);
+    let penalty = charge(alloc, &facts, terms, base)?;
+    let parts = parts_within(alloc, &facts, base)?;
+    let Parts {
+        atoms,
+        ends,
+        actions,
+    } = parts;
+    let Ends { goal, starts } = ends;
+    let InitialStates { list, den } = starts;
+    Ok(GroundProblem::new(atoms, penalty, list, den, goal, actions))
+}

@@ -1,0 +1,114 @@
+//! The parts of the ground problem of a task, within the limits.
+
+ghost use Rattle.std.specs.Prelude.{◌≡◌, Ok, length};
+ghost use Rattle.ppddl_model.specs.Steps.{Charges, base_cost};
+ghost use Rattle.ppddl_model.specs.WellFormed.{IsWellFormed};
+ghost use Rattle.grounding.specs.Atoms.{numbering_of};
+ghost use Rattle.grounding.specs.Limits.{limits};
+ghost use Rattle.early_limits.specs.Early.{early_limits};
+ghost use Rattle.early_limits.specs.Laws.{later_limits};
+ghost use Rattle.ground_actions.specs.Answers.{IsBindingOf};
+ghost use Rattle.grounder.specs.Limited.{Limited, ended};
+ghost use Rattle.grounder.specs.Parts.{IsEndOf, ArePartsOf};
+
+use crate::names::names_of;
+use crate::sizing::sized_actions;
+use early_limits::{early_limits, limit_laws};
+use ground_conditions::{Binding, ground_condition};
+use ground_model::{GroundAction, GroundCondition, List, MOST_ATOMS};
+use ground_names::Scope;
+use ground_starts::{InitialStates, ground_starts};
+use grounding::{GroundRefusal, LimitCode};
+use plain_list::Text;
+use std::alloc::Global;
+use task_atoms::{changing_texts, kept_of_actions};
+use task_facts::TaskFacts;
+
+/// The goal and the initial states of a ground problem.
+#[derive(Drop)]
+pub(crate) struct Ends {
+    /// The goal.
+    pub(crate) goal: GroundCondition,
+    /// The initial states.
+    pub(crate) starts: InitialStates,
+}
+
+/// The parts of a ground problem beside its penalty.
+#[derive(Drop)]
+pub(crate) struct Parts {
+    /// The texts of the atoms.
+    pub(crate) atoms: List<Text>,
+    /// The goal and the initial states.
+    pub(crate) ends: Ends,
+    /// The actions.
+    pub(crate) actions: List<GroundAction>,
+}
+
+/// The goal and the initial states, where so many atoms, and the initial states, are within the limits.
+fn ends_within(
+    alloc: Global,
+    facts: &TaskFacts<'_>,
+    within: &Binding<'_>,
+    count: usize,
+) -> Result<Ends, GroundRefusal>
+    requires named { IsBindingOf facts.now within.now }
+    requires count { count ≡ length (numbering_of facts.now).atoms }
+    ensures { Limited (IsEndOf facts.now) result (ended facts.now) }
+{
+    if count > MOST_ATOMS {
+        return Err(GroundRefusal::Limit(LimitCode::Atoms));
+    }
+    let problem = &facts.task().problem;
+    let goal = ground_condition(alloc, within, &problem.goal, &Scope::Empty)?;
+    let starts = ground_starts(alloc, within, count, problem.init.as_slice())?;
+    Ok(Ends { goal, starts })
+}
+
+/// The parts of the ground problem, where the size of the tried preconditions is known.
+fn later_parts(
+    alloc: Global,
+    facts: &TaskFacts<'_>,
+    base: u64,
+    tested: u64,
+) -> Result<Parts, GroundRefusal>
+    requires well_formed { IsWellFormed facts.now }
+    requires tested { early_limits facts.now ≡ Ok tested }
+    ensures exact { (charges : Charges) → base_cost facts.now charges ≡ base
+        → Limited (ArePartsOf facts.now charges) result (later_limits facts.now charges tested) }
+{
+    let kept = kept_of_actions(alloc, facts)?;
+    let atoms = changing_texts(alloc, facts, kept.as_slice())?;
+    let names = names_of(alloc, facts, atoms.as_slice())?;
+    let within = Binding {
+        table: facts.table(),
+        values: &names.values,
+        atoms: &names.atoms,
+        facts: &names.facts,
+        scope: &Scope::Empty,
+    };
+    let actions = sized_actions(alloc, facts, &within, kept.as_slice(), base, tested)?;
+    let ends = ends_within(alloc, facts, &within, atoms.as_slice().len())?;
+    Ok(Parts {
+        atoms,
+        ends,
+        actions,
+    })
+}
+
+/// The parts of the ground problem of a task in which each step costs this much at least, where the task
+/// is within the limits.
+pub(crate) fn parts_within(
+    alloc: Global,
+    facts: &TaskFacts<'_>,
+    base: u64,
+) -> Result<Parts, GroundRefusal>
+    requires well_formed { IsWellFormed facts.now }
+    ensures exact { (charges : Charges) → base_cost facts.now charges ≡ base
+        → Limited (ArePartsOf facts.now charges) result (limits facts.now charges) }
+{
+    limit_laws();
+    match early_limits(facts) {
+        Ok(tested) => later_parts(alloc, facts, base, tested),
+        Err(code) => Err(GroundRefusal::Limit(code)),
+    }
+}
