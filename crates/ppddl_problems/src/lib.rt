@@ -1,0 +1,8 @@
+//! Problems of planning tasks, behind the name with which their definition begins.
+#![tactic(auto)]
+
+mod problem_draft;
+mod problems;
+mod section;
+
+pub use problems::read_problem;

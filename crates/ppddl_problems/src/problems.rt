@@ -1,0 +1,110 @@
+//! Problems, section by section.
+
+ghost use Rattle.std.specs.Prelude.{◌≡◌, ◌<◌, OnOk};
+ghost use Rattle.token_cursor.specs.Ahead.{size};
+ghost use Rattle.token_cursor.specs.Reading.{Gives, ReadsOne, one_at, rest_at};
+ghost use Rattle.ppddl_problems.specs.Problems.{section_flag, section_rest, section, problem};
+
+use crate::problem_draft::ProblemDraft;
+use crate::section::{Section, section_of};
+use ppddl_forms::Name;
+use ppddl_model::{Problem, TextRefusal};
+use ppddl_names::Names;
+use ppddl_objects::read_objects;
+use ppddl_sections::{
+    read_domain_name, read_flags, read_goal, read_goal_reward, read_metric, read_start,
+};
+use std::alloc::Global;
+use token_cursor::Cursor;
+
+/// Goes past the flag of a section that did not stand yet.
+#[tactic(auto, using(ppddl_sections::proofs::Steps::section_steps), unfolding(crate::specs::Problems::section_flag))]
+fn read_section_flag(cursor: &mut Cursor<'_>, draft: &ProblemDraft) -> Result<Section, TextRefusal>
+    ensures gives { ReadsOne (section_flag draft.now) cursor.old cursor.new result }
+    ensures fewer { OnOk result (size cursor.new < size cursor.old) }
+{
+    let word = cursor.word_ahead()?;
+    let section = draft.accept(section_of(word), cursor.place())?;
+    cursor.advance();
+    Ok(section)
+}
+
+/// Reads what stands behind the flag of a section, and its `)`.
+#[tactic(auto, using(ppddl_sections::proofs::Steps::section_steps))]
+fn read_section_rest(
+    alloc: Global,
+    cursor: &mut Cursor<'_>,
+    domain: &[u8],
+    names: &mut Names,
+    draft: &mut ProblemDraft,
+    section: Section,
+) -> Result<(), TextRefusal>
+    ensures gives { Gives (λ _. ((draft.new, names.new), cursor.new)) result
+        (rest_at (section_rest domain.now draft.old names.old section) cursor.old) }
+    ensures fewer { OnOk result (size cursor.new < size cursor.old) }
+{
+    match section {
+        Section::Domain => {
+            read_domain_name(alloc, cursor, domain)?;
+            draft.domain = true;
+        }
+        Section::Requirements => {
+            read_flags(cursor)?;
+            draft.requirements = true;
+        }
+        Section::Objects => {
+            let objects = read_objects(alloc, cursor, names)?;
+            names.add_objects(objects.as_slice())?;
+            draft.objects = Some(objects);
+        }
+        Section::Init => draft.start = Some(read_start(alloc, cursor, names)?),
+        Section::Goal => draft.goal = Some(read_goal(alloc, cursor, names)?),
+        Section::GoalReward => draft.goal_reward = Some(read_goal_reward(cursor)?),
+        Section::Metric => {
+            read_metric(cursor)?;
+            draft.metric = true;
+        }
+    }
+    Ok(())
+}
+
+/// Reads `( FLAG .. )`, a section that did not stand yet.
+#[tactic(auto, using(ppddl_sections::proofs::Steps::section_steps), unfolding(crate::specs::Problems::section))]
+fn read_section(
+    alloc: Global,
+    cursor: &mut Cursor<'_>,
+    domain: &[u8],
+    names: &mut Names,
+    draft: &mut ProblemDraft,
+) -> Result<(), TextRefusal>
+    ensures gives { Gives (λ _. ((draft.new, names.new), cursor.new)) result
+        (one_at (section domain.now (draft.old, names.old)) cursor.old) }
+    ensures fewer { OnOk result (size cursor.new < size cursor.old) }
+{
+    cursor.open()?;
+    let section = read_section_flag(cursor, draft)?;
+    read_section_rest(alloc, cursor, domain, names, draft, section)
+}
+
+/// Reads `SECTION* )` of a problem of this name and of the domain `domain`, and declares its objects behind
+/// what the domain declared.
+#[tactic(auto, using(ppddl_sections::proofs::Steps::section_steps), unfolding(crate::specs::Problems::sections))]
+pub fn read_problem(
+    alloc: Global,
+    cursor: &mut Cursor<'_>,
+    name: Name,
+    domain: &[u8],
+    names: &mut Names,
+) -> Result<Problem, TextRefusal>
+    ensures gives { Gives (λ p. ((p, names.new), cursor.new)) result
+        (rest_at (problem name domain.now names.old) cursor.old) }
+    ensures fewer { OnOk result (size cursor.new < size cursor.old) }
+{
+    let mut draft = ProblemDraft::new();
+    while cursor.has_form() {
+        read_section(alloc, cursor, domain, names, &mut draft)?;
+    }
+    let problem = draft.into_problem(alloc, name, cursor.place())?;
+    cursor.close()?;
+    Ok(problem)
+}
