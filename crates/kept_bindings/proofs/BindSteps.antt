@@ -1,5 +1,5 @@
 -- Rows of kept instances that are put behind others.
-use Rattle.std.proofs.Common.{◌≡◌, ℕ, zero, suc, ◌+◌, ◌-◌, ◌<◌, ◌≤◌, Bool, true, false, ◌&&◌, cond, Option, List, [], ◌∷◌, ◌++◌, map, filter, length, take, drop, get_or, add-one, refl, sym, ap, subst, ◌∙◌, arith, length-append, length-drop}
+use Rattle.std.proofs.Common.{◌≡◌, ℕ, zero, suc, ◌+◌, ◌-◌, ◌<◌, ◌≤◌, Bool, true, false, ◌&&◌, cond, List, [], ◌∷◌, ◌++◌, map, filter, length, take, drop, get_or, add-one, refl, sym, ap, subst, ◌∙◌, arith, length-append, length-drop}
 use Rattle.std.specs.Prelude.{All, flat_map}
 use Rattle.std.proofs.lemmas.List.{map-append, append_assoc, append-nil}
 use Rattle.std.proofs.lemmas.Grind.{flat_map-append}
@@ -10,14 +10,14 @@ use Rattle.ppddl_model.specs.declared.tree.Task.{Task}
 use Rattle.ppddl_model.specs.State.{Name}
 use Rattle.ppddl_model.specs.Objects.{World, Binding, objects_of, bindings}
 use Rattle.ppddl_model.specs.Functions.{are_valued}
-use Rattle.ppddl_model.specs.Known.{is_not_false}
 use Rattle.ppddl_model.specs.Steps.{world}
-use Rattle.ppddl_model.specs.Changing.{known_of}
 use Rattle.type_table.specs.Types.{object_at}
 use Rattle.type_table.proofs.Lists.{by_test}
 use Rattle.task_facts.specs.Facts.{table_of}
 use Rattle.kept_bindings.specs.Rows.{Table, with_row}
 use Rattle.kept_bindings.specs.Kept.{bound_to, binding_of_row, IsRow, is_kept_under, IsAdded, AreKept}
+use Rattle.kept_bindings.specs.Stages.{may_hold, params_of}
+use Rattle.kept_bindings.specs.declared.stages.Stage.{Stage}
 
 filter-append : {X : Type 0} (p : X → Bool) (xs ys : List X) → filter p (xs ++ ys) ≡ filter p xs ++ filter p ys
 filter-append p [] ys = refl
@@ -32,12 +32,12 @@ module _ (task : Task) (a : Action) where
   abbrev row_binding : List ℕ → Binding
   row_binding = binding_of_row w a.params
 
-  pub nothing_added : (t : Table) → IsAdded task a [] t t
-  nothing_added t = record {
+  pub nothing_added : (bs : List Binding) (t : Table) → filter (is_kept_under task a) bs ≡ [] → IsAdded task a bs t t
+  nothing_added bs t none = record {
     more = [];
     width = refl;
     rows = sym (append-nil t.rows);
-    bound = refl;
+    bound = sym none;
     each = All-nil (IsRow w (length a.params));
   }
 
@@ -65,26 +65,19 @@ module _ (task : Task) (a : Action) where
   }
 
   pub row_left : (b : Binding) (t : Table) → is_kept_under task a b ≡ false → IsAdded task a (b ∷ []) t t
-  row_left b t left = record {
-    more = [];
-    width = refl;
-    rows = sym (append-nil t.rows);
-    bound = sym (ap (λ k. cond k (b ∷ []) []) left);
-    each = All-nil (IsRow w (length a.params));
-  }
+  row_left b t left = nothing_added (b ∷ []) t (ap (λ k. cond k (b ∷ []) []) left)
 
   -- ---- what is kept
 
-  module _ (b : Binding) (known : Option Bool) (may : Bool) (is : known ≡ known_of task a.condition b) (says : may ≡ is_not_false known) where
-    pub kept_where : may ≡ true → are_valued (world task) a.effect b ≡ is_kept_under task a b
-    kept_where passes =
-        let holds : is_not_false (known_of task a.condition b) ≡ true = ap is_not_false (sym is) ∙ sym says ∙ passes in
-        sym (ap (λ k. k && are_valued (world task) a.effect b) holds)
+  pub kept_where : (b : Binding) (valued : Bool) → valued ≡ are_valued (world task) a.effect b → may_hold task b a.condition ≡ true
+      → valued ≡ is_kept_under task a b
+  kept_where b valued is may = is ∙ sym (ap (λ k. k && are_valued (world task) a.effect b) may)
 
-    pub left_where : may ≡ false → false ≡ is_kept_under task a b
-    left_where fails =
-        let holds : is_not_false (known_of task a.condition b) ≡ false = ap is_not_false (sym is) ∙ sym says ∙ fails in
-        sym (ap (λ k. k && are_valued (world task) a.effect b) holds)
+  pub none_kept : (t : Table) → t.rows ≡ [] → filter (is_kept_under task a) (bindings (world task) a.params []) ≡ [] → AreKept task a t
+  none_kept t none are = record {
+    bound = ap (map row_binding) none ∙ sym are;
+    each = subst (All (IsRow w (length a.params))) (sym none) (All-nil (IsRow w (length a.params)));
+  }
 
   pub all_added : (old new : Table) → old.rows ≡ [] → IsAdded task a (bindings (world task) a.params []) old new → AreKept task a new
   all_added old new none added =
@@ -114,11 +107,6 @@ all_ways task (q ∷ vars) p b objects some is are =
     ∙ ap (flat_map (λ o. bindings (world task) vars ((p.name, o) ∷ b))) are
     ∙ ap (λ r. bindings (world task) (r ∷ vars) b) is
 
-pub bound_first : (w : World) (vars : List Param) (p : Param) (o : ℕ) (rest : List ℕ) (b : Binding) → (length vars ≡ 0 → ⊥) → p ≡ get_or vars 0 p
-    → bound_to w vars (o ∷ rest) b ≡ bound_to w (drop 1 vars) rest ((p.name, object_at w o) ∷ b)
-bound_first w [] p o rest b some is = absurd (some refl)
-bound_first w (q ∷ vars) p o rest b some is = ap (λ (r : Param). bound_to w vars rest ((r.name, object_at w o) ∷ b)) (sym is)
-
 drop-drop : {X : Type 0} (n : ℕ) (xs : List X) → drop 1 (drop n xs) ≡ drop (suc n) xs
 drop-drop zero xs = refl
 drop-drop (suc n) [] = refl
@@ -137,12 +125,16 @@ none_left n xs vars are within none =
     let long : length vars ≡ length xs - n = ap length are ∙ length-drop n xs in
     omega (arith, long, none, within)
 
+pub end_long : (n : ℕ) (params : List Param) (stages : List Stage) → params_of stages ≡ drop n params → n ≤ length params → length stages ≡ 0 → n ≡ length params
+end_long n params [] are within none = none_left n params [] are within refl
+end_long n params (s ∷ stages) are within none = absurd (omega (arith, none))
+
 take_more : {X : Type 0} (xs : List X) (i : ℕ) (d : X) → i < length xs → take (suc i) xs ≡ take i xs ++ get_or xs i d ∷ []
 take_more [] i d within = absurd (omega arith)
 take_more (x ∷ xs) zero d within = refl
 take_more (x ∷ xs) (suc i) d within = ap (λ l. x ∷ l) (take_more xs i d (omega arith))
 
-take_all : {X : Type 0} (i : ℕ) (xs : List X) → length xs ≤ i → take i xs ≡ xs
+pub take_all : {X : Type 0} (i : ℕ) (xs : List X) → length xs ≤ i → take i xs ≡ xs
 take_all zero [] short = refl
 take_all (suc i) [] short = refl
 take_all zero (x ∷ xs) short = absurd (omega arith)
@@ -166,35 +158,39 @@ pub bound_none : (w : World) (vars : List Param) (b : Binding) → bound_to w va
 bound_none w [] b = refl
 bound_none w (p ∷ vars) b = refl
 
-tail_is : {X : Type 0} (xs : List X) → take (length xs - 1) (drop 1 xs) ≡ drop 1 xs
+pub tail_is : {X : Type 0} (xs : List X) → take (length xs - 1) (drop 1 xs) ≡ drop 1 xs
 tail_is [] = refl
 tail_is (x ∷ xs) = take_all (length (x ∷ xs) - 1) xs (omega arith)
 
+-- a list that is not empty is its first item and the slice behind it
+pub cons_is : {X : Type 0} (xs : List X) (x : X) → (length xs ≡ 0 → ⊥) → x ≡ get_or xs 0 x → xs ≡ x ∷ drop 1 xs
+cons_is [] x some is = absurd (some refl)
+cons_is (y ∷ xs) x some is = ap (λ z. z ∷ xs) (sym is)
+
 -- one variable more is bound
-module _ (w : World) (params vars : List Param) (first : Param) (o : ℕ) (row pushed : List ℕ) (b : Binding) (name object : Name)
-    (some : length vars ≡ 0 → ⊥) (is : first ≡ get_or vars 0 first) (put : pushed ≡ row ++ o ∷ [])
-    (named : name ≡ first.name) (at : object ≡ object_at w o) where
+module _ (w : World) (params later : List Param) (first : Param) (o : ℕ) (row pushed : List ℕ) (b : Binding) (name object : Name)
+    (put : pushed ≡ row ++ o ∷ []) (named : name ≡ first.name) (at : object ≡ object_at w o) where
   pub same_scope : (first.name, object_at w o) ∷ b ≡ (name, object) ∷ b
   same_scope = λ i. (sym named i, sym at i) ∷ b
 
-  pub next_bound : ((rest : List ℕ) → bound_to w params (row ++ rest) [] ≡ bound_to w vars rest b)
-      → (rest : List ℕ) → bound_to w params (pushed ++ rest) [] ≡ bound_to w (take (length vars - 1) (drop 1 vars)) rest ((name, object) ∷ b)
+  pub next_bound : ((rest : List ℕ) → bound_to w params (row ++ rest) [] ≡ bound_to w (first ∷ later) rest b)
+      → (rest : List ℕ) → bound_to w params (pushed ++ rest) [] ≡ bound_to w later rest ((name, object) ∷ b)
   next_bound before rest =
       ap (λ l. bound_to w params (l ++ rest) []) put
       ∙ ap (λ l. bound_to w params l []) (append_assoc row (o ∷ []) rest)
       ∙ before (o ∷ rest)
-      ∙ bound_first w vars first o rest b some is
-      ∙ ap (bound_to w (drop 1 vars) rest) same_scope
-      ∙ ap (λ l. bound_to w l rest ((name, object) ∷ b)) (sym (tail_is vars))
+      ∙ ap (bound_to w later rest) same_scope
 
   pushed_long : length pushed ≡ length row + 1
   pushed_long = ap length put ∙ length-append row (o ∷ [])
 
-  pub next_rest : vars ≡ drop (length row) params → take (length vars - 1) (drop 1 vars) ≡ drop (length pushed) params
-  next_rest are = tail_is vars ∙ drop_more (length row) params vars are ∙ ap (λ k. drop k params) (sym pushed_long)
+  pub next_rest : first ∷ later ≡ drop (length row) params → later ≡ drop (length pushed) params
+  next_rest are = drop_more (length row) params (first ∷ later) are ∙ ap (λ k. drop k params) (sym pushed_long)
 
-  pub next_long : vars ≡ drop (length row) params → length pushed ≤ length params
-  next_long are = let left = some_left (length row) params vars are some in omega (arith, left, pushed_long)
+  pub next_long : first ∷ later ≡ drop (length row) params → length pushed ≤ length params
+  next_long are =
+      let left : length row < length params = some_left (length row) params (first ∷ later) are (λ none. absurd (omega (arith, none))) in
+      omega (arith, left, pushed_long)
 
   pub next_within : All (λ q. q < length w.objects) row → o < length w.objects → All (λ q. q < length w.objects) pushed
   next_within each here =
@@ -202,13 +198,5 @@ module _ (w : World) (params vars : List Param) (first : Param) (o : ℕ) (row p
       (All-append (λ q. q < length w.objects) row (o ∷ []) each
       (All-cons (λ q. q < length w.objects) o [] here (All-nil (λ q. q < length w.objects))))
 
-  pub next_smaller : length (take (length vars - 1) (drop 1 vars)) < length vars
-  next_smaller =
-      let rest = ap length (tail_is vars) ∙ length-drop 1 vars in
-      omega (arith, rest, some)
-
   pub shorter_again : (n : ℕ) (after : List ℕ) → n ≡ length row → after ≡ pushed → take n after ≡ row
   shorter_again n after long same = ap (take n) (same ∙ put) ∙ ap (λ k. take k (row ++ o ∷ [])) long ∙ row_shorter row o
-
-  pub same_ways : (v : World) → bindings v (take (length vars - 1) (drop 1 vars)) ((name, object) ∷ b) ≡ ways_with w v (drop 1 vars) first b o
-  same_ways v = λ i. bindings v (tail_is vars i) (sym same_scope i)

@@ -1,19 +1,22 @@
 //! Kept instances of actions.
 
-ghost use Rattle.std.specs.Prelude.{◌≡◌, ◌<◌, ◌≤◌, ℕ, List, [], ◌∷◌, ◌++◌};
+ghost use Rattle.std.specs.Prelude.{◌≡◌, ◌<◌, ◌≤◌, true, ℕ, List, [], ◌∷◌, ◌++◌};
 ghost use Rattle.std.specs.Prelude.{length, drop, All, IfOk, OnOk};
 ghost use Rattle.ppddl_model.specs.Known.{is_not_false};
 ghost use Rattle.ppddl_model.specs.Objects.{bindings};
 ghost use Rattle.ppddl_model.specs.Steps.{world};
 ghost use Rattle.ground_names.specs.Scopes.{binding_of};
 ghost use Rattle.task_facts.specs.Facts.{table_of};
-ghost use Rattle.kept_bindings.specs.Kept.{bound_to, is_kept_under, IsAdded, AreKept};
+ghost use Rattle.kept_bindings.specs.Kept.{bound_to, IsAdded, AreKept};
+ghost use Rattle.kept_bindings.specs.Stages.{conditions_of, may_hold, may_all_hold};
+ghost use Rattle.kept_bindings.specs.Stages.{params_of, IsLeft};
 
 use crate::rows::Rows;
+use crate::stages::{Stage, Stages, stages_of};
 use crate::valued::are_valued;
 use ground_names::Scope;
-use ground_sizes::objects_of;
-use ppddl_model::{Action, Param};
+use ground_sizes::count_bindings;
+use ppddl_model::{Action, Condition};
 use std::alloc::{AllocError, Global};
 use task_facts::TaskFacts;
 
@@ -27,26 +30,27 @@ fn may_hold(known: Option<bool>) -> bool
     }
 }
 
-/// Whether the instance of an action is kept.
-fn is_kept(
+/// Whether none of the conditions is known to be false.
+fn may_all_hold(
     alloc: Global,
     facts: &TaskFacts<'_>,
-    action: &Action,
+    conditions: &[&Condition],
     scope: &Scope<'_>,
 ) -> Result<bool, AllocError>
-    ensures { IfOk result (λ kept. kept
-        ≡ is_kept_under facts.now action.now (binding_of scope.now)) }
+    ensures { IfOk result (λ may. may
+        ≡ may_all_hold facts.now (binding_of scope.now) (conditions_of conditions.now)) }
 {
-    let known = facts.known(alloc, &action.condition, scope)?;
-    let may = may_hold(known);
-    if may {
-        are_valued(alloc, facts, &action.effect, scope)
-    } else {
-        Ok(false)
+    for condition in conditions {
+        let known = facts.known(alloc, *condition, scope)?;
+        if !may_hold(known) {
+            return Ok(false);
+        }
     }
+    Ok(true)
 }
 
-/// Puts the row behind the others, if its instance is kept.
+/// Puts the row of an instance, whose precondition may hold, behind the others, if the function terms of
+/// its effect have values.
 fn add_row(
     alloc: Global,
     facts: &TaskFacts<'_>,
@@ -60,56 +64,61 @@ fn add_row(
     requires within { All (λ o. o < length (table_of facts.now).objects) row.now }
     requires bound { bound_to (table_of facts.now) action.now.params row.now []
         ≡ binding_of scope.now }
+    requires open { may_hold facts.now (binding_of scope.now) action.now.condition ≡ true }
     ensures { OnOk result (IsAdded facts.now action.now (binding_of scope.now ∷ [])
         rows.old rows.new) }
 {
-    let kept = is_kept(alloc, facts, action, scope)?;
-    if kept {
+    let valued = are_valued(alloc, facts, &action.effect, scope)?;
+    if valued {
         return rows.push(row);
     }
     Ok(())
 }
 
-/// Binds the variables in all ways, on top of the scope whose row is given, and puts the rows of kept
-/// instances behind the others.
+/// Binds the parameters of the stages in all ways, on top of the scope whose row is given, and puts the
+/// rows of kept instances behind the others. A binding is left as soon as a test is known to be false.
 fn bind<'x>(
     alloc: Global,
     facts: &'x TaskFacts<'_>,
     action: &Action,
-    variables: &'x [Param],
+    stages: &'x [Stage<'_>],
     scope: &'x Scope<'x>,
     row: &mut Vec<u32>,
     rows: &mut Rows,
 ) -> Result<(), AllocError>
     requires width { rows.old.width ≡ length action.now.params }
-    requires rest { variables.now ≡ drop (length row.old.items) action.now.params }
+    requires rest { params_of stages.now ≡ drop (length row.old.items) action.now.params }
     requires long { length row.old.items ≤ length action.now.params }
     requires within { All (λ o. o < length (table_of facts.now).objects) row.old.items }
     requires bound { (rest : List ℕ)
         → bound_to (table_of facts.now) action.now.params (row.old.items ++ rest) []
-        ≡ bound_to (table_of facts.now) variables.now rest (binding_of scope.now) }
+        ≡ bound_to (table_of facts.now) (params_of stages.now) rest (binding_of scope.now) }
+    requires left { IsLeft facts.now action.now.condition stages.now (binding_of scope.now) }
     ensures row { OnOk result (row.new.items ≡ row.old.items) }
     ensures rows { OnOk result (IsAdded facts.now action.now
-        (bindings (world facts.now) variables.now (binding_of scope.now)) rows.old rows.new) }
+        (bindings (world facts.now) (params_of stages.now) (binding_of scope.now)) rows.old rows.new) }
 {
-    if variables.is_empty() {
+    if stages.is_empty() {
         return add_row(alloc, &*facts, action, &*scope, row.as_slice(), rows);
     }
-    let first = &variables[0];
+    let stage = &stages[0];
     let bound = row.len();
-    let objects = objects_of(alloc, (&*facts).table(), first)?;
-    for object in objects.as_slice() {
+    for object in stage.objects.as_slice() {
         let inside = Scope::Bound(
-            first.name.as_slice(),
+            stage.param.name.as_slice(),
             (&*facts).table().object_name(*object),
             &*scope,
         );
+        let may = may_all_hold(alloc, &*facts, stage.tests.as_slice(), &inside)?;
+        if !may {
+            continue;
+        }
         row.push(*object)?;
         bind(
             alloc,
             &*facts,
             &*action,
-            &variables[1..],
+            &stages[1..],
             &inside,
             &mut *row,
             &mut *rows,
@@ -128,13 +137,22 @@ pub fn kept_bindings(
 ) -> Result<Rows, AllocError>
     ensures { IfOk result (AreKept facts.now action.now) }
 {
+    let params = action.params.as_slice();
+    let mut rows = Rows::new(alloc, params.len());
+    if count_bindings(facts.table(), params) == 0 {
+        return Ok(rows);
+    }
+    let Stages { first, stages } = stages_of(alloc, facts, action)?;
+    let may = may_all_hold(alloc, facts, first.as_slice(), &Scope::Empty)?;
+    if !may {
+        return Ok(rows);
+    }
     let mut row = Vec::new(alloc);
-    let mut rows = Rows::new(alloc, action.params.as_slice().len());
     bind(
         alloc,
         facts,
         action,
-        action.params.as_slice(),
+        stages.as_slice(),
         &Scope::Empty,
         &mut row,
         &mut rows,

@@ -4,8 +4,10 @@
 
 mod binding;
 mod rows;
+mod stages;
 mod terms;
 mod valued;
+mod variables;
 
 pub use binding::kept_bindings;
 pub use rows::Rows;

@@ -3,18 +3,20 @@ use Rattle.std.proofs.lemmas.Result.{on_ok_weaker}
 use Rattle.ground_names.specs.Scopes.{binding_of}
 use Rattle.kept_bindings.specs.Rows.{with_row}
 use Rattle.kept_bindings.specs.Kept.{IsAdded}
-use Rattle.kept_bindings.proofs.BindSteps.{row_added, row_left}
+use Rattle.kept_bindings.proofs.BindSteps.{row_added, row_left, kept_where}
 use Rattle.kept_bindings.proofs.binding.add_row.Goals as goal
 
-pub returns-then-kept : goal.returns-then-kept
-returns-then-kept c =
+pub returns-then-valued : goal.returns-then-valued
+returns-then-valued c =
     let b = binding_of c.args.scope.now in
     on_ok_weaker {P = c.push.new.self ≡ with_row c.args.rows.now c.args.row.now}
     {Q = IsAdded c.args.facts.now c.args.action.now (b ∷ []) c.args.rows.now c.push.new.self} c.push.result
     (λ is. row_added c.args.facts.now c.args.action.now b c.args.row.now c.args.rows.now c.push.new.self is
-    (sym c.in_ok-kept.ensures ∙ c.if-kept.true)
+    (sym (kept_where c.args.facts.now c.args.action.now b c.in_ok-valued.valued c.in_ok-valued.ensures c.requires.open) ∙ c.if-valued.true)
     (record { long = c.requires.long; within = c.requires.within }) c.requires.bound) c.push.ensures
 
 pub returns : goal.returns
 returns c =
-    row_left c.args.facts.now c.args.action.now (binding_of c.args.scope.now) c.args.rows.now (sym c.in_ok-kept.ensures ∙ c.if-kept.false)
+    let b = binding_of c.args.scope.now in
+    row_left c.args.facts.now c.args.action.now b c.args.rows.now
+    (sym (kept_where c.args.facts.now c.args.action.now b c.in_ok-valued.valued c.in_ok-valued.ensures c.requires.open) ∙ c.if-valued.false)

@@ -1,0 +1,50 @@
+use Rattle.std.proofs.Common.{◌≡◌, [], true, false, filter, length, sym, ap, subst, ◌∙◌}
+use Rattle.ppddl_model.specs.Objects.{World, bindings}
+use Rattle.ppddl_model.specs.Steps.{world}
+use Rattle.ground_sizes.specs.Counted.{counted}
+use Rattle.task_facts.specs.Facts.{table_of}
+use Rattle.kept_bindings.specs.Rows.{Table}
+use Rattle.kept_bindings.specs.Kept.{is_kept_under, IsAdded}
+use Rattle.kept_bindings.specs.Stages.{conditions_of, may_all_hold, params_of, IsLeft}
+use Rattle.kept_bindings.proofs.BindSteps.{all_added, none_kept}
+use Rattle.kept_bindings.proofs.Staging.{first_left, first_none, no_ways}
+use Rattle.kept_bindings.proofs.binding.kept_bindings.Goals as goal
+
+pub returns-then-count_bindings-eq0 : goal.returns-then-count_bindings-eq0
+returns-then-count_bindings-eq0 c =
+    let task = c.args.facts.now in
+    let action = c.args.action.now in
+    let count = c.count_bindings.ensures
+    ∙ ap (λ (w : World). counted (length (bindings w c.as_slice-params.result.now []))) c.table.ensures.table
+    ∙ ap (λ l. counted (length (bindings (table_of task) l []))) c.as_slice-params.ensures in
+    none_kept task action c.new-rows.result (ap (λ (t : Table). t.rows) c.new-rows.ensures)
+    (ap (filter (is_kept_under task action)) (no_ways task action.params c.count_bindings.result count c.if-count_bindings-eq0.true))
+
+pub returns-then-not-may : goal.returns-then-not-may
+returns-then-not-may c =
+    let task = c.args.facts.now in
+    let action = c.args.action.now in
+    let first = conditions_of c.in_ok-first.field-0.first.items in
+    let may : may_all_hold task [] first ≡ false
+    = sym (c.in_ok-may.ensures ∙ ap (λ l. may_all_hold task [] (conditions_of l)) c.as_slice.ensures.value) ∙ c.if-not-may.true in
+    none_kept task action c.new-rows.result (ap (λ (t : Table). t.rows) c.new-rows.ensures)
+    (first_none task action first c.in_ok-first.field-0.stages.items c.in_ok-first.ensures may)
+
+pub bind-requires-clause-left : goal.bind-requires-clause-left
+bind-requires-clause-left c =
+    let task = c.args.facts.now in
+    let action = c.args.action.now in
+    let first = conditions_of c.in_ok-first.field-0.first.items in
+    let may : may_all_hold task [] first ≡ true
+    = sym (c.in_ok-may.ensures ∙ ap (λ l. may_all_hold task [] (conditions_of l)) c.as_slice.ensures.value) ∙ c.if-not-may.false in
+    subst (λ l. IsLeft task action.condition l []) (sym c.as_slice-2.ensures.value)
+    (first_left task action first c.in_ok-first.field-0.stages.items c.in_ok-first.ensures may)
+
+pub returns : goal.returns
+returns c =
+    let task = c.args.facts.now in
+    let action = c.args.action.now in
+    all_added task action c.new-rows.result c.bind.new.rows (ap (λ (t : Table). t.rows) c.new-rows.ensures)
+    (subst (λ l. IsAdded task action (bindings (world task) l []) c.new-rows.result c.bind.new.rows)
+    (ap params_of c.as_slice-2.ensures.value ∙ c.in_ok-first.ensures.params)
+    c.in_ok-bind.ensures.rows)

@@ -1,0 +1,58 @@
+use Rattle.std.proofs.Common.{◌≡◌, ℕ, ◌≤◌, not, filter, length, drop, reverse, refl, sym, ap, subst, ◌∙◌, arith}
+use Rattle.std.proofs.lemmas.List.{drop_all}
+use Rattle.ppddl_model.specs.declared.tree.Param.{Param}
+use Rattle.ppddl_model.specs.Objects.{World}
+use Rattle.task_facts.specs.Facts.{table_of}
+use Rattle.kept_bindings.specs.Stages.{names_variable, conjuncts_of, conditions_of, AreStages, IsRange}
+use Rattle.kept_bindings.proofs.Staging.{made_first, next_made}
+use Rattle.kept_bindings.proofs.stages.stages_of.Goals as goal
+
+pub loop-place-init : goal.loop-place-init
+loop-place-init c =
+    let table = table_of c.args.facts.now in
+    let params = c.as_slice-params.result.now in
+    let parts = conjuncts_of c.args.action.now.condition in
+    let first = conditions_of c.in_ok-first.first.items in
+    record {
+      within = omega arith;
+      made =
+          subst (λ l. AreStages table (drop (length params) params) parts first (reverse l)) (sym c.new-stages.ensures.items)
+          (made_first table parts (drop (length params) params) first (drop_all (length params) params (omega arith)) c.in_ok-first.ensures);
+    }
+
+pub loop-place-preserved : goal.loop-place-preserved
+loop-place-preserved c =
+    let table = table_of c.args.facts.now in
+    let params = c.as_slice-params.result.now in
+    let parts = conjuncts_of c.args.action.now.condition in
+    let first = conditions_of c.loop-place.first.items in
+    let others = conditions_of c.in_ok-naming.field-0.others.items in
+    let stages = c.loop-place.stages.items in
+    let place : ℕ = c.loop-place.place in
+    let p : Param = c.index-params-place.result in
+    let within : place ≤ length params = c.loop-place.invariant.within in
+    let objects = c.in_ok-objects.objects in
+    let range : IsRange table objects p
+    = subst (λ (w : World). IsRange w objects p) c.table.ensures.table
+    (record { are = c.in_ok-objects.ensures.objects; within = c.in_ok-objects.ensures.within }) in
+    record {
+      within = omega (arith, within);
+      made =
+          next_made table parts params place p _ first others stages c.push.new.self.items (omega arith) within c.index-params-place.is
+          c.in_ok-push.ensures.items refl range
+          (c.in_ok-naming.ensures.naming ∙ (λ i. filter (names_variable (c.as_slice-in-loop-place.ensures i)) (conditions_of (c.as_slice.ensures.value i))))
+          (c.in_ok-naming.ensures.others
+          ∙ (λ i. filter (λ x. not (names_variable (c.as_slice-in-loop-place.ensures i) x)) (conditions_of (c.as_slice.ensures.value i))))
+          c.loop-place.invariant.made;
+    }
+
+pub returns : goal.returns
+returns c =
+    let table = table_of c.args.facts.now in
+    let params = c.as_slice-params.result.now in
+    let parts = conjuncts_of c.args.action.now.condition in
+    let first = conditions_of c.loop-place.first.items in
+    let stages = c.loop-place.stages.items in
+    let none : c.loop-place.place ≡ 0 = omega arith in
+    subst (λ l. AreStages table l parts first c.reverse.new.self.items) (ap (λ k. drop k params) none ∙ c.as_slice-params.ensures)
+    (subst (AreStages table (drop c.loop-place.place params) parts first) (sym c.reverse.ensures.items) c.loop-place.invariant.made)
