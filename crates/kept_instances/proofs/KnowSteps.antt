@@ -11,6 +11,8 @@ use Rattle.ppddl_model.specs.declared.tree.Param.{Param}
 use Rattle.ppddl_model.specs.State.{Name}
 use Rattle.ppddl_model.specs.Objects.{World, Binding, objects_of, bindings}
 use Rattle.ppddl_model.specs.Known.{known_not, known_and, known_or, known_all, known_any, known_each}
+use Rattle.ground_sizes.specs.Counted.{counted}
+use Rattle.ground_sizes.proofs.ManyWays.{length-bindings}
 use Rattle.kept_instances.specs.Known.{known_in, first_state, joined, joined_each}
 
 -- ---- Kleene's conjunction and disjunction
@@ -205,6 +207,14 @@ module _ (w : World) (changing : List Name) (init : List InitItem) where
   first_variable all c (q ∷ ps) p b some is =
       each-flat all (known_in w changing init c) (λ o. bindings w ps ((p.name, o) ∷ b)) (objects_of w p)
       ∙ ap (λ r. joined_each all (map (known_in w changing init c) (bindings w (r ∷ ps) b))) is
+
+-- where no way to bind variables is counted, there is none on top of any binding
+pub no_bindings : (w : World) (ps : List Param) (b : Binding) → counted (length (bindings w ps [])) ≡ 0 → bindings w ps b ≡ []
+no_bindings w ps b none = nothing (bindings w ps b) (ap counted (length-bindings w ps b []) ∙ none)
+  where
+    nothing : (bs : List Binding) → counted (length bs) ≡ 0 → bs ≡ []
+    nothing [] none = refl
+    nothing (c ∷ bs) none = absurd (omega (arith, none))
 
 -- ---- how large a condition is, so that recursions end
 

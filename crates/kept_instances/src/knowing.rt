@@ -11,7 +11,7 @@ ghost use Rattle.ground_names.specs.Scopes.{binding_of};
 
 use crate::first_facts::{FirstFacts, known_atom};
 use ground_names::{Scope, named};
-use ground_sizes::objects_of;
+use ground_sizes::{count_bindings, objects_of};
 use ppddl_model::{Condition, Param, Term};
 use std::alloc::{AllocError, Global};
 use type_table::TypeTable;
@@ -92,7 +92,7 @@ pub fn known(
             let follows = known(alloc, &*table, &*facts, second.get(), &*scope)?;
             Ok(joined(false, refuted, follows))
         }
-        Condition::Exists(variables, inner) => known_bound(
+        Condition::Exists(variables, inner) => known_quantified(
             alloc,
             &*table,
             &*facts,
@@ -101,7 +101,7 @@ pub fn known(
             inner.get(),
             &*scope,
         ),
-        Condition::Forall(variables, inner) => known_bound(
+        Condition::Forall(variables, inner) => known_quantified(
             alloc,
             &*table,
             &*facts,
@@ -137,6 +137,30 @@ fn known_parts(
         }
     }
     Ok(known_so_far)
+}
+
+/// What is known of a condition under all ways to bind the variables, or under any of them. Where a variable
+/// has no objects there are none, and the others are not bound, however many objects they have.
+#[cycle(knowing)]
+fn known_quantified(
+    alloc: Global,
+    table: &TypeTable,
+    facts: &FirstFacts<'_>,
+    all: bool,
+    variables: &[Param],
+    inner: &Condition,
+    scope: &Scope<'_>,
+) -> Result<Option<bool>, AllocError>
+    requires typed { IsTyped table.now }
+    requires keys { AreKeys facts.now.keys facts.now.init.now }
+    ensures { IfOk result (λ k. k ≡ joined_each all (map
+        (known_in table.now facts.now.changing facts.now.init.now inner.now)
+        (bindings table.now variables.now (binding_of scope.now)))) }
+{
+    if count_bindings(table, variables) == 0 {
+        return Ok(Some(all));
+    }
+    known_bound(alloc, &*table, &*facts, all, &*variables, &*inner, &*scope)
 }
 
 /// What is known of a condition under all ways to bind the variables, or under any of them.

@@ -9,7 +9,7 @@ use Rattle.ppddl_model.specs.declared.tree.Condition.{Condition}
 use Rattle.type_table.specs.Types.{object_at}
 use Rattle.kept_instances.specs.Known.{known_in, joined, joined_each}
 use Rattle.ground_names.specs.Scopes.{binding_of}
-use Rattle.kept_instances.proofs.KnowSteps.{mass, mass-All, mass-Any, mass-Not, mass-Imply, mass-Exists, mass-Forall, mass-part, of_object, joined-none, map_map, first_variable, each-more, tail_is, if_ok, known-All, known-Any, known-Not, known-Imply, known-Exists, known-Forall}
+use Rattle.kept_instances.proofs.KnowSteps.{each-nil, no_bindings, mass, mass-All, mass-Any, mass-Not, mass-Imply, mass-Exists, mass-Forall, mass-part, of_object, joined-none, map_map, first_variable, each-more, tail_is, if_ok, known-All, known-Any, known-Not, known-Imply, known-Exists, known-Forall}
 use Rattle.kept_instances.proofs.knowing.+knowing.Goals as goal
 
 pub known-returns-in-Atom : goal.known-returns-in-Atom
@@ -53,13 +53,13 @@ known-returns-in_ok-follows-in-Imply t c =
 
 pub known-returns-in-Exists : goal.known-returns-in-Exists
 known-returns-in-Exists t c =
-    if_ok c.known_bound.result _ _ c.known_bound.ensures
+    if_ok c.known_quantified.result _ _ c.known_quantified.ensures
     (known-Exists c.args.table.now c.args.facts.now.changing c.args.facts.now.init.now c.args.condition.now c.in-Exists.inner c.get-in-Exists.result.now
     c.in-Exists.variables c.as_slice-in-Exists.result.now (binding_of c.args.scope.now) c.in-Exists.is c.get-in-Exists.ensures c.as_slice-in-Exists.ensures)
 
 pub known-returns-in-Forall : goal.known-returns-in-Forall
 known-returns-in-Forall t c =
-    if_ok c.known_bound-in-Forall.result _ _ c.known_bound-in-Forall.ensures
+    if_ok c.known_quantified-in-Forall.result _ _ c.known_quantified-in-Forall.ensures
     (known-Forall c.args.table.now c.args.facts.now.changing c.args.facts.now.init.now c.args.condition.now c.in-Forall.inner c.get-in-Forall.result.now
     c.in-Forall.variables c.as_slice-in-Forall.result.now (binding_of c.args.scope.now) c.in-Forall.is c.get-in-Forall.ensures c.as_slice-in-Forall.ensures)
 
@@ -68,7 +68,7 @@ known-known-requires t c =
     let size = mass-Not c.in-Not.inner in
     let whole = ap mass c.in-Not.is in
     let part = ap mass c.get.ensures in
-    let before : 2 * mass c.args.condition.now ≡ t = c.decreases in
+    let before : 3 * mass c.args.condition.now ≡ t = c.decreases in
     (omega (arith, size, whole, part, before), (c.requires.typed, c.requires.keys))
 
 pub known-known_parts-requires : goal.known-known_parts-requires
@@ -76,7 +76,7 @@ known-known_parts-requires t c =
     let size = mass-All c.in-All.parts in
     let whole = ap mass c.in-All.is in
     let part = ap (total mass) c.as_slice.ensures in
-    let before : 2 * mass c.args.condition.now ≡ t = c.decreases in
+    let before : 3 * mass c.args.condition.now ≡ t = c.decreases in
     (omega (arith, size, whole, part, before), (c.requires.typed, c.requires.keys))
 
 pub known-known_parts-requires-in-Any : goal.known-known_parts-requires-in-Any
@@ -84,7 +84,7 @@ known-known_parts-requires-in-Any t c =
     let size = mass-Any c.in-Any.parts in
     let whole = ap mass c.in-Any.is in
     let part = ap (total mass) c.as_slice-in-Any.ensures in
-    let before : 2 * mass c.args.condition.now ≡ t = c.decreases in
+    let before : 3 * mass c.args.condition.now ≡ t = c.decreases in
     (omega (arith, size, whole, part, before), (c.requires.typed, c.requires.keys))
 
 pub known-known-requires-in-Imply : goal.known-known-requires-in-Imply
@@ -92,7 +92,7 @@ known-known-requires-in-Imply t c =
     let size = mass-Imply c.in-Imply.first c.in-Imply.second in
     let whole = ap mass c.in-Imply.is in
     let part = ap mass c.get-in-Imply.ensures in
-    let before : 2 * mass c.args.condition.now ≡ t = c.decreases in
+    let before : 3 * mass c.args.condition.now ≡ t = c.decreases in
     (omega (arith, size, whole, part, before), (c.requires.typed, c.requires.keys))
 
 pub known-known-requires-in-Imply-2 : goal.known-known-requires-in-Imply-2
@@ -100,32 +100,32 @@ known-known-requires-in-Imply-2 t c =
     let size = mass-Imply c.in-Imply.first c.in-Imply.second in
     let whole = ap mass c.in-Imply.is in
     let part = ap mass c.get-in-Imply-2.ensures in
-    let before : 2 * mass c.args.condition.now ≡ t = c.decreases in
+    let before : 3 * mass c.args.condition.now ≡ t = c.decreases in
     (omega (arith, size, whole, part, before), (c.requires.typed, c.requires.keys))
 
-pub known-known_bound-requires : goal.known-known_bound-requires
-known-known_bound-requires t c =
+pub known-known_quantified-requires : goal.known-known_quantified-requires
+known-known_quantified-requires t c =
     let size = mass-Exists c.in-Exists.variables c.in-Exists.inner in
     let whole = ap mass c.in-Exists.is in
     let part = ap mass c.get-in-Exists.ensures in
     let count = ap length c.as_slice-in-Exists.ensures in
-    let before : 2 * mass c.args.condition.now ≡ t = c.decreases in
+    let before : 3 * mass c.args.condition.now ≡ t = c.decreases in
     (omega (arith, size, whole, part, count, before), (c.requires.typed, c.requires.keys))
 
-pub known-known_bound-requires-in-Forall : goal.known-known_bound-requires-in-Forall
-known-known_bound-requires-in-Forall t c =
+pub known-known_quantified-requires-in-Forall : goal.known-known_quantified-requires-in-Forall
+known-known_quantified-requires-in-Forall t c =
     let size = mass-Forall c.in-Forall.variables c.in-Forall.inner in
     let whole = ap mass c.in-Forall.is in
     let part = ap mass c.get-in-Forall.ensures in
     let count = ap length c.as_slice-in-Forall.ensures in
-    let before : 2 * mass c.args.condition.now ≡ t = c.decreases in
+    let before : 3 * mass c.args.condition.now ≡ t = c.decreases in
     (omega (arith, size, whole, part, count, before), (c.requires.typed, c.requires.keys))
 
 pub known_parts-known-requires : goal.known_parts-known-requires
 known_parts-known-requires t c =
     let within = mass-part c.args.parts.now c.loop-part.part-index c.part-item.result c.loop-part-test.true in
     let part = ap mass c.part-item.is in
-    let before : 2 * total mass c.args.parts.now + 1 ≡ t = c.decreases in
+    let before : 3 * total mass c.args.parts.now + 1 ≡ t = c.decreases in
     (omega (arith, within, part, before), (c.requires.typed, c.requires.keys))
 
 pub known_bound-loop-object-init : goal.known_bound-loop-object-init
@@ -167,3 +167,10 @@ known_parts-loop-part-preserved t c =
     ∙ each-more c.args.all (λ (x : Condition). known_in c.args.table.now c.args.facts.now.changing c.args.facts.now.init.now x (binding_of c.args.scope.now))
     c.args.parts.now c.loop-part.part-index c.part-item.result c.part-item.result c.loop-part.known_so_far c.in_ok-here.here _ c.loop-part-test.true c.part-item.is
     c.in_ok-here.ensures c.loop-part.invariant
+
+pub known_quantified-returns-then-count_bindings-eq0 : goal.known_quantified-returns-then-count_bindings-eq0
+known_quantified-returns-then-count_bindings-eq0 t c =
+    let w = c.args.table.now in
+    let b = binding_of c.args.scope.now in
+    let none = no_bindings w c.args.variables.now b (sym c.count_bindings.ensures ∙ c.if-count_bindings-eq0.true) in
+    sym (ap (λ l. joined_each c.args.all (map (known_in w c.args.facts.now.changing c.args.facts.now.init.now c.args.inner.now) l)) none ∙ each-nil c.args.all)

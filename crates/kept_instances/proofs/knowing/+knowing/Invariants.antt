@@ -9,13 +9,16 @@ use Rattle.kept_instances.proofs.KnowSteps.{mass, of_object}
 use Rattle.kept_instances.proofs.knowing.+knowing.Given as goal
 
 abbrev pub decreases-known : goal.decreases-known
-decreases-known l = 2 * mass l.condition.now
+decreases-known l = 3 * mass l.condition.now
 
 abbrev pub decreases-known_parts : goal.decreases-known_parts
-decreases-known_parts l = 2 * total mass l.parts.now + 1
+decreases-known_parts l = 3 * total mass l.parts.now + 1
 
 abbrev pub decreases-known_bound : goal.decreases-known_bound
-decreases-known_bound l = 2 * mass l.inner.now + length l.variables.now + 1
+decreases-known_bound l = 3 * mass l.inner.now + length l.variables.now + 1
+
+abbrev pub decreases-known_quantified : goal.decreases-known_quantified
+decreases-known_quantified l = 3 * mass l.inner.now + length l.variables.now + 2
 
 abbrev pub invariant-known_bound-loop-object : goal.invariant-known_bound-loop-object
 invariant-known_bound-loop-object l =
