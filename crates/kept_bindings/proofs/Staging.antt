@@ -15,8 +15,6 @@ use Rattle.ppddl_model.specs.Functions.{are_valued}
 use Rattle.ppddl_model.specs.Steps.{world}
 use Rattle.type_table.specs.Types.{object_at}
 use Rattle.type_table.proofs.Lists.{by_test}
-use Rattle.ground_sizes.specs.Counted.{counted}
-use Rattle.ground_sizes.proofs.CostSteps.{bindings-valued}
 use Rattle.task_facts.specs.Facts.{table_of}
 use Rattle.kept_bindings.specs.declared.stages.Stage.{Stage}
 use Rattle.kept_bindings.specs.Kept.{is_kept_under}
@@ -183,15 +181,6 @@ module _ (task : Task) (a : Action) (s : Stage) (later : List Stage) (b b1 : Bin
   none_left fails =
       filter_none (is_kept_under task a) (bindings (world task) (params_of later) b1)
       (λ b' inside. closed task a b' (left_there false fails b' inside))
-
-pub no_ways : (task : Task) (params : List Param) (count : ℕ) → count ≡ counted (length (bindings (table_of task) params [])) → count ≡ 0
-    → bindings (world task) params [] ≡ []
-no_ways task params count counts none =
-    bindings-valued (table_of task) task.problem.values params [] ∙ nothing (bindings (table_of task) params []) (sym counts ∙ none)
-  where
-    nothing : (bs : List Binding) → counted (length bs) ≡ 0 → bs ≡ []
-    nothing [] none = refl
-    nothing (b ∷ bs) none = absurd (omega (arith, none))
 
 -- before any parameter is bound
 module _ (task : Task) (a : Action) (first : List Condition) (stages : List Stage)

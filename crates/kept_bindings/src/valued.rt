@@ -11,7 +11,7 @@ ghost use Rattle.ground_names.specs.Scopes.{binding_of};
 
 use crate::terms::names_terms;
 use ground_names::Scope;
-use ground_sizes::objects_of;
+use ground_sizes::{count_bindings, objects_of};
 use ppddl_model::{Branch, Effect, Param};
 use std::alloc::{AllocError, Global};
 use task_facts::TaskFacts;
@@ -34,7 +34,7 @@ pub(crate) fn are_valued(
         Effect::Forall(variables, inner) => {
             let named = names_terms(inner.get());
             if named {
-                are_valued_bound(alloc, &*facts, variables.as_slice(), inner.get(), &*scope)
+                are_valued_ways(alloc, &*facts, variables.as_slice(), inner.get(), &*scope)
             } else {
                 Ok(true)
             }
@@ -83,6 +83,25 @@ fn are_valued_branches(
         }
     }
     Ok(true)
+}
+
+/// Whether this is so of an effect under all ways to bind the variables. Where a variable has no objects there
+/// are none, and the others are not bound, however many objects they have.
+#[cycle(valuing)]
+fn are_valued_ways(
+    alloc: Global,
+    facts: &TaskFacts<'_>,
+    variables: &[Param],
+    inner: &Effect,
+    scope: &Scope<'_>,
+) -> Result<bool, AllocError>
+    ensures { IfOk result (λ v. v ≡ list_all (are_valued (world facts.now) inner.now)
+        (bindings (world facts.now) variables.now (binding_of scope.now))) }
+{
+    if count_bindings(facts.table(), variables) == 0 {
+        return Ok(true);
+    }
+    are_valued_bound(alloc, &*facts, &*variables, &*inner, &*scope)
 }
 
 /// Whether this is so of an effect under all ways to bind the variables.

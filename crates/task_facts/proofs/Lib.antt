@@ -4,3 +4,4 @@ pub mod Facts
 pub mod Known
 pub mod Made
 pub mod Mass
+pub mod Ways

@@ -3,11 +3,12 @@ use Rattle.ppddl_model.specs.Objects.{World, bindings}
 use Rattle.ppddl_model.specs.Steps.{world}
 use Rattle.ground_sizes.specs.Counted.{counted}
 use Rattle.task_facts.specs.Facts.{table_of}
+use Rattle.task_facts.proofs.Ways.{no_ways}
 use Rattle.kept_bindings.specs.Rows.{Table}
 use Rattle.kept_bindings.specs.Kept.{is_kept_under, IsAdded}
 use Rattle.kept_bindings.specs.Stages.{conditions_of, may_all_hold, params_of, IsLeft}
 use Rattle.kept_bindings.proofs.BindSteps.{all_added, none_kept}
-use Rattle.kept_bindings.proofs.Staging.{first_left, first_none, no_ways}
+use Rattle.kept_bindings.proofs.Staging.{first_left, first_none}
 use Rattle.kept_bindings.proofs.binding.kept_bindings.Goals as goal
 
 pub returns-then-count_bindings-eq0 : goal.returns-then-count_bindings-eq0
@@ -18,7 +19,7 @@ returns-then-count_bindings-eq0 c =
     ∙ ap (λ (w : World). counted (length (bindings w c.as_slice-params.result.now []))) c.table.ensures.table
     ∙ ap (λ l. counted (length (bindings (table_of task) l []))) c.as_slice-params.ensures in
     none_kept task action c.new-rows.result (ap (λ (t : Table). t.rows) c.new-rows.ensures)
-    (ap (filter (is_kept_under task action)) (no_ways task action.params c.count_bindings.result count c.if-count_bindings-eq0.true))
+    (ap (filter (is_kept_under task action)) (no_ways task action.params [] (sym count ∙ c.if-count_bindings-eq0.true)))
 
 pub returns-then-not-may : goal.returns-then-not-may
 returns-then-not-may c =

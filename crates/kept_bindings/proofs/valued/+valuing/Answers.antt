@@ -1,15 +1,18 @@
-use Rattle.std.proofs.Common.{◌≡◌, Bool, true≢false, ◌+◌, ◌*◌, length, map, drop, sym, ap, subst, ◌∙◌, arith}
+use Rattle.std.proofs.Common.{◌≡◌, Bool, true≢false, ◌+◌, ◌*◌, [], length, map, drop, sym, ap, subst, ◌∙◌, arith}
 use Rattle.std.specs.Prelude.{◌==◌}
 use Rattle.std.specs.List.{list_all}
 use Rattle.weighted.specs.Mean.{total}
 use Rattle.ppddl_model.specs.State.{Name}
-use Rattle.ppddl_model.specs.Objects.{World, objects_of}
+use Rattle.ppddl_model.specs.Objects.{World, objects_of, bindings}
+use Rattle.ppddl_model.specs.Functions.{are_valued}
 use Rattle.ppddl_model.specs.Steps.{world}
 use Rattle.type_table.specs.Types.{object_at}
 use Rattle.ground_names.specs.Scopes.{binding_of}
 use Rattle.kept_instances.proofs.KnowSteps.{if_ok}
 use Rattle.task_facts.specs.Facts.{table_of}
 use Rattle.task_facts.proofs.Mass.{mass, branch_mass, mass-Both, mass-Chance, mass-Forall, mass-When, part_mass}
+use Rattle.ground_sizes.specs.Counted.{counted}
+use Rattle.task_facts.proofs.Ways.{no_ways}
 use Rattle.kept_bindings.proofs.Valuing.{valued-Both, valued-Chance, valued-When, valued-Forall, valued-without, valued_object, first_valued, all-map}
 use Rattle.kept_bindings.proofs.valued.+valuing.Goals as goal
 
@@ -18,7 +21,7 @@ are_valued-are_valued_each-requires t c =
     let size = mass-Both c.in-Both.parts in
     let whole = ap mass c.in-Both.is in
     let part = ap (total mass) c.as_slice.ensures in
-    let before : 2 * mass c.args.effect.now ≡ t = c.decreases in
+    let before : 3 * mass c.args.effect.now ≡ t = c.decreases in
     omega (arith, size, whole, part, before)
 
 pub are_valued-are_valued_branches-requires : goal.are_valued-are_valued_branches-requires
@@ -26,16 +29,16 @@ are_valued-are_valued_branches-requires t c =
     let size = mass-Chance c.in-Chance.branches in
     let whole = ap mass c.in-Chance.is in
     let part = ap (total branch_mass) c.as_slice-in-Chance.ensures in
-    let before : 2 * mass c.args.effect.now ≡ t = c.decreases in
+    let before : 3 * mass c.args.effect.now ≡ t = c.decreases in
     omega (arith, size, whole, part, before)
 
-pub are_valued-are_valued_bound-requires : goal.are_valued-are_valued_bound-requires
-are_valued-are_valued_bound-requires t c =
+pub are_valued-are_valued_ways-requires : goal.are_valued-are_valued_ways-requires
+are_valued-are_valued_ways-requires t c =
     let size = mass-Forall c.in-Forall.variables c.in-Forall.inner in
     let whole = ap mass c.in-Forall.is in
     let part = ap mass c.get-then-named.ensures in
     let count = ap length c.as_slice-then-named.ensures in
-    let before : 2 * mass c.args.effect.now ≡ t = c.decreases in
+    let before : 3 * mass c.args.effect.now ≡ t = c.decreases in
     omega (arith, size, whole, part, count, before)
 
 pub are_valued-are_valued-requires : goal.are_valued-are_valued-requires
@@ -43,21 +46,21 @@ are_valued-are_valued-requires t c =
     let size = mass-When c.in-When.field-0 c.in-When.inner in
     let whole = ap mass c.in-When.is in
     let part = ap mass c.get-in-When.ensures in
-    let before : 2 * mass c.args.effect.now ≡ t = c.decreases in
+    let before : 3 * mass c.args.effect.now ≡ t = c.decreases in
     omega (arith, size, whole, part, before)
 
 pub are_valued_each-are_valued-requires : goal.are_valued_each-are_valued-requires
 are_valued_each-are_valued-requires t c =
     let within = part_mass mass c.args.parts.now c.loop-part.part-index c.part-item.result c.loop-part-test.true in
     let part = ap mass c.part-item.is in
-    let before : 2 * total mass c.args.parts.now + 1 ≡ t = c.decreases in
+    let before : 3 * total mass c.args.parts.now + 1 ≡ t = c.decreases in
     omega (arith, within, part, before)
 
 pub are_valued_branches-are_valued-requires : goal.are_valued_branches-are_valued-requires
 are_valued_branches-are_valued-requires t c =
     let within = part_mass branch_mass c.args.branches.now c.loop-branch.branch-index c.branch-item.result c.loop-branch-test.true in
     let part = ap branch_mass c.branch-item.is in
-    let before : 2 * total branch_mass c.args.branches.now + 1 ≡ t = c.decreases in
+    let before : 3 * total branch_mass c.args.branches.now + 1 ≡ t = c.decreases in
     omega (arith, within, part, before)
 
 pub are_valued-returns-in-Both : goal.are_valued-returns-in-Both
@@ -79,7 +82,7 @@ are_valued-returns-in-When t c =
 
 pub are_valued-returns-then-named : goal.are_valued-returns-then-named
 are_valued-returns-then-named t c =
-    if_ok c.are_valued_bound.result _ _ c.are_valued_bound.ensures
+    if_ok c.are_valued_ways.result _ _ c.are_valued_ways.ensures
     (valued-Forall (world c.args.facts.now) c.args.effect.now c.in-Forall.inner c.get-then-named.result.now c.in-Forall.variables
     c.as_slice-then-named.result.now (binding_of c.args.scope.now) c.in-Forall.is c.get-then-named.ensures c.as_slice-then-named.ensures)
 
@@ -101,3 +104,10 @@ are_valued_bound-loop-object-init t c =
     all-map value (object_at table) items ∙ ap (list_all value) listed
     ∙ first_valued w c.args.inner.now c.args.variables.now first (binding_of c.args.scope.now)
     (λ none. true≢false (sym (ap (λ k. k == 0) none) ∙ sym c.is_empty.ensures ∙ c.if-is_empty.false)) c.index-variables-0.is
+
+pub are_valued_ways-returns-then-count_bindings-eq0 : goal.are_valued_ways-returns-then-count_bindings-eq0
+are_valued_ways-returns-then-count_bindings-eq0 t c =
+    let none = no_ways c.args.facts.now c.args.variables.now (binding_of c.args.scope.now)
+    (ap (λ (v : World). counted (length (bindings v c.args.variables.now []))) (sym c.table.ensures.table)
+    ∙ sym c.count_bindings.ensures ∙ c.if-count_bindings-eq0.true) in
+    sym (ap (list_all (are_valued (world c.args.facts.now) c.args.inner.now)) none)

@@ -14,16 +14,19 @@ use Rattle.kept_bindings.proofs.Valuing.{valued_object}
 use Rattle.kept_bindings.proofs.valued.+valuing.Given as goal
 
 abbrev pub decreases-are_valued : goal.decreases-are_valued
-decreases-are_valued l = 2 * mass l.effect.now
+decreases-are_valued l = 3 * mass l.effect.now
 
 abbrev pub decreases-are_valued_each : goal.decreases-are_valued_each
-decreases-are_valued_each l = 2 * total mass l.parts.now + 1
+decreases-are_valued_each l = 3 * total mass l.parts.now + 1
 
 abbrev pub decreases-are_valued_branches : goal.decreases-are_valued_branches
-decreases-are_valued_branches l = 2 * total branch_mass l.branches.now + 1
+decreases-are_valued_branches l = 3 * total branch_mass l.branches.now + 1
 
 abbrev pub decreases-are_valued_bound : goal.decreases-are_valued_bound
-decreases-are_valued_bound l = 2 * mass l.inner.now + length l.variables.now + 1
+decreases-are_valued_bound l = 3 * mass l.inner.now + length l.variables.now + 1
+
+abbrev pub decreases-are_valued_ways : goal.decreases-are_valued_ways
+decreases-are_valued_ways l = 3 * mass l.inner.now + length l.variables.now + 2
 
 abbrev pub invariant-are_valued_each-loop-part : goal.invariant-are_valued_each-loop-part
 invariant-are_valued_each-loop-part l =
