@@ -12,6 +12,11 @@ use Rattle.ppddl_model.specs.State.{Name}
 use Rattle.ppddl_model.specs.Objects.{World, Binding, objects_of, bindings}
 use Rattle.ground_model.specs.declared.condition.GroundCondition.{GroundCondition}
 use Rattle.ground_model.specs.declared.condition.GroundCondition.TheVariants.{All, Any, Not}
+use Rattle.ground_sizes.specs.Counted.{counted}
+use Rattle.ground_sizes.proofs.CostSteps.{bindings-valued}
+use Rattle.ground_sizes.proofs.ManyWays.{length-bindings}
+use Rattle.ground_conditions.specs.declared.binding.Binding.{Binding as Within}
+use Rattle.ground_conditions.specs.Bindings.{world_of}
 use Rattle.joint_choices.specs.Numbering.{Numbering, ground_condition, ground_conditions}
 
 -- ---- lists
@@ -142,6 +147,18 @@ module _ (w : World) (n : Numbering) where
   pub no_variable : (c : Condition) (ps : List Param) (b : Binding) → length ps ≡ 0 → ground_condition w n c b ∷ [] ≡ map (ground_condition w n c) (bindings w ps b)
   no_variable c [] b none = refl
   no_variable c (q ∷ ps) b none = absurd (omega (arith, none))
+
+-- ---- where no way to bind variables is counted, there is none on top of any binding
+
+pub no_ways : (within : Within) (ps : List Param) (b : Binding) → counted (length (bindings within.table.now ps [])) ≡ 0
+    → bindings (world_of within) ps b ≡ []
+no_ways within ps b none =
+    bindings-valued within.table.now within.values.now ps b
+    ∙ nothing (bindings within.table.now ps b) (ap counted (length-bindings within.table.now ps b []) ∙ none)
+  where
+    nothing : (bs : List Binding) → counted (length bs) ≡ 0 → bs ≡ []
+    nothing [] none = refl
+    nothing (c ∷ bs) none = absurd (omega (arith, none))
 
 -- ---- how large a condition is, so that recursions end
 

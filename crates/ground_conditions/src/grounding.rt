@@ -13,7 +13,7 @@ use crate::atoms::{constant, grounded_atom};
 use crate::binding::Binding;
 use ground_model::{Boxed, GroundCondition, List};
 use ground_names::{Scope, named};
-use ground_sizes::objects_of;
+use ground_sizes::{count_bindings, objects_of};
 use ppddl_model::{Condition, Param, Term};
 use std::alloc::{AllocError, Global};
 
@@ -74,25 +74,11 @@ pub fn ground_condition(
             Ok(GroundCondition::Any(both(alloc, refuted, follows)?))
         }
         Condition::Exists(variables, inner) => {
-            let each = ground_bound(
-                alloc,
-                &*within,
-                Vec::new(alloc),
-                variables.as_slice(),
-                inner.get(),
-                &*scope,
-            )?;
+            let each = ground_ways(alloc, &*within, variables.as_slice(), inner.get(), &*scope)?;
             Ok(GroundCondition::Any(List::from_vec(each)))
         }
         Condition::Forall(variables, inner) => {
-            let each = ground_bound(
-                alloc,
-                &*within,
-                Vec::new(alloc),
-                variables.as_slice(),
-                inner.get(),
-                &*scope,
-            )?;
+            let each = ground_ways(alloc, &*within, variables.as_slice(), inner.get(), &*scope)?;
             Ok(GroundCondition::All(List::from_vec(each)))
         }
     }
@@ -116,6 +102,28 @@ fn ground_each(
         each.push(here)?;
     }
     Ok(each)
+}
+
+/// A condition under all ways to bind the variables. Where a variable has no objects there are none, and the
+/// others are not bound, however many objects they have.
+#[cycle(grounding)]
+fn ground_ways(
+    alloc: Global,
+    within: &Binding<'_>,
+    variables: &[Param],
+    inner: &Condition,
+    scope: &Scope<'_>,
+) -> Result<Vec<GroundCondition>, AllocError>
+    requires { IsTyped within.now.table.now }
+    ensures { IfOk result (λ v. v.items ≡ map
+        (ground_condition (world_of within.now) (numbering_of within.now) inner.now)
+        (bindings (world_of within.now) variables.now (binding_of scope.now))) }
+{
+    let none = Vec::new(alloc);
+    if count_bindings(within.table, variables) == 0 {
+        return Ok(none);
+    }
+    ground_bound(alloc, &*within, none, &*variables, &*inner, &*scope)
 }
 
 /// A condition under all ways to bind the variables, behind others.

@@ -1,5 +1,5 @@
-use Rattle.std.proofs.Common.{◌≡◌, ℕ, ◌+◌, ◌*◌, ◌++◌, [], ◌∷◌, length, drop, map, true≢false, arith, sym, ap, ◌∙◌}
-use Rattle.std.specs.Prelude.{◌==◌, flat_map}
+use Rattle.std.proofs.Common.{◌≡◌, ℕ, ◌+◌, ◌*◌, ◌++◌, [], ◌∷◌, length, drop, map, true≢false, arith, sym, ap, subst, ◌∙◌}
+use Rattle.std.specs.Prelude.{◌==◌, flat_map, IfOk}
 use Rattle.weighted.specs.Mean.{total}
 use Rattle.ppddl_model.specs.Objects.{bindings}
 use Rattle.type_table.specs.Types.{object_at}
@@ -7,7 +7,7 @@ use Rattle.joint_choices.specs.Numbering.{ground_condition}
 use Rattle.ground_names.specs.Scopes.{binding_of}
 use Rattle.ground_conditions.specs.Bindings.{world_of, numbering_of}
 use Rattle.ground_model.specs.declared.condition.GroundCondition.TheVariants.{All, Any, Not}
-use Rattle.ground_conditions.proofs.GroundSteps.{mass, mass-part, of_object, flat-map, first_variable, none_before}
+use Rattle.ground_conditions.proofs.GroundSteps.{no_ways, mass, mass-part, of_object, flat-map, first_variable, none_before}
 use Rattle.ground_conditions.proofs.GroundSteps.{mass-All, mass-Any, mass-Not, mass-Imply, mass-Exists, mass-Forall}
 use Rattle.ground_conditions.proofs.GroundSteps.{ground-All, ground-Any, ground-Not, ground-Imply, ground-Exists, ground-Forall}
 use Rattle.ground_conditions.proofs.grounding.+grounding.Goals as goal
@@ -16,7 +16,7 @@ pub ground_each-ground_condition-requires : goal.ground_each-ground_condition-re
 ground_each-ground_condition-requires t c =
     let within = mass-part c.args.parts.now c.loop-part.part-index c.part-item.result c.loop-part-test.true in
     let part = ap mass c.part-item.is in
-    let before : 2 * total mass c.args.parts.now + 1 ≡ t = c.decreases in
+    let before : 3 * total mass c.args.parts.now + 1 ≡ t = c.decreases in
     (omega (arith, within, part, before), c.requires)
 
 pub ground_bound-loop-object-init : goal.ground_bound-loop-object-init
@@ -38,7 +38,7 @@ ground_condition-ground_condition-requires t c =
     let size = mass-Not c.in-Not.inner in
     let whole = ap mass c.in-Not.is in
     let part = ap mass c.get.ensures in
-    let before : 2 * mass c.args.condition.now ≡ t = c.decreases in
+    let before : 3 * mass c.args.condition.now ≡ t = c.decreases in
     (omega (arith, size, whole, part, before), c.requires)
 
 pub ground_condition-ground_each-requires : goal.ground_condition-ground_each-requires
@@ -46,7 +46,7 @@ ground_condition-ground_each-requires t c =
     let size = mass-All c.in-All.parts in
     let whole = ap mass c.in-All.is in
     let part = ap (total mass) c.as_slice.ensures in
-    let before : 2 * mass c.args.condition.now ≡ t = c.decreases in
+    let before : 3 * mass c.args.condition.now ≡ t = c.decreases in
     (omega (arith, size, whole, part, before), c.requires)
 
 pub ground_condition-ground_each-requires-in-Any : goal.ground_condition-ground_each-requires-in-Any
@@ -54,7 +54,7 @@ ground_condition-ground_each-requires-in-Any t c =
     let size = mass-Any c.in-Any.others in
     let whole = ap mass c.in-Any.is in
     let part = ap (total mass) c.as_slice-in-Any.ensures in
-    let before : 2 * mass c.args.condition.now ≡ t = c.decreases in
+    let before : 3 * mass c.args.condition.now ≡ t = c.decreases in
     (omega (arith, size, whole, part, before), c.requires)
 
 pub ground_condition-ground_condition-requires-in-Imply : goal.ground_condition-ground_condition-requires-in-Imply
@@ -62,7 +62,7 @@ ground_condition-ground_condition-requires-in-Imply t c =
     let size = mass-Imply c.in-Imply.first c.in-Imply.second in
     let whole = ap mass c.in-Imply.is in
     let part = ap mass c.get-in-Imply.ensures in
-    let before : 2 * mass c.args.condition.now ≡ t = c.decreases in
+    let before : 3 * mass c.args.condition.now ≡ t = c.decreases in
     (omega (arith, size, whole, part, before), c.requires)
 
 pub ground_condition-ground_condition-requires-in-Imply-2 : goal.ground_condition-ground_condition-requires-in-Imply-2
@@ -70,25 +70,25 @@ ground_condition-ground_condition-requires-in-Imply-2 t c =
     let size = mass-Imply c.in-Imply.first c.in-Imply.second in
     let whole = ap mass c.in-Imply.is in
     let part = ap mass c.get-in-Imply-2.ensures in
-    let before : 2 * mass c.args.condition.now ≡ t = c.decreases in
+    let before : 3 * mass c.args.condition.now ≡ t = c.decreases in
     (omega (arith, size, whole, part, before), c.requires)
 
-pub ground_condition-ground_bound-requires : goal.ground_condition-ground_bound-requires
-ground_condition-ground_bound-requires t c =
+pub ground_condition-ground_ways-requires : goal.ground_condition-ground_ways-requires
+ground_condition-ground_ways-requires t c =
     let size = mass-Exists c.in-Exists.variables c.in-Exists.inner in
     let whole = ap mass c.in-Exists.is in
     let part = ap mass c.get-in-Exists.ensures in
     let count = ap length c.as_slice-in-Exists.ensures in
-    let before : 2 * mass c.args.condition.now ≡ t = c.decreases in
+    let before : 3 * mass c.args.condition.now ≡ t = c.decreases in
     (omega (arith, size, whole, part, count, before), c.requires)
 
-pub ground_condition-ground_bound-requires-in-Forall : goal.ground_condition-ground_bound-requires-in-Forall
-ground_condition-ground_bound-requires-in-Forall t c =
+pub ground_condition-ground_ways-requires-in-Forall : goal.ground_condition-ground_ways-requires-in-Forall
+ground_condition-ground_ways-requires-in-Forall t c =
     let size = mass-Forall c.in-Forall.variables c.in-Forall.inner in
     let whole = ap mass c.in-Forall.is in
     let part = ap mass c.get-in-Forall.ensures in
     let count = ap length c.as_slice-in-Forall.ensures in
-    let before : 2 * mass c.args.condition.now ≡ t = c.decreases in
+    let before : 3 * mass c.args.condition.now ≡ t = c.decreases in
     (omega (arith, size, whole, part, count, before), c.requires)
 
 -- ---- what each form answers
@@ -120,16 +120,26 @@ ground_condition-returns-in_ok-both-in-Imply t c =
 
 pub ground_condition-returns-in_ok-each-in-Exists : goal.ground_condition-returns-in_ok-each-in-Exists
 ground_condition-returns-in_ok-each-in-Exists t c =
-    ap Any (c.from_vec-in-Exists.ensures ∙ c.in_ok-each-in-Exists.ensures
-    ∙ none_before c.new-in-Exists.result.items (map (ground_condition (world_of c.args.within.now) (numbering_of c.args.within.now) c.get-in-Exists.result.now)
-    (bindings (world_of c.args.within.now) c.as_slice-in-Exists.result.now (binding_of c.args.scope.now))) c.new-in-Exists.ensures.items)
+    ap Any (c.from_vec-in-Exists.ensures ∙ c.in_ok-each-in-Exists.ensures)
     ∙ ground-Exists (world_of c.args.within.now) (numbering_of c.args.within.now) c.args.condition.now c.in-Exists.inner c.get-in-Exists.result.now
     c.in-Exists.variables c.as_slice-in-Exists.result.now (binding_of c.args.scope.now) c.in-Exists.is c.get-in-Exists.ensures c.as_slice-in-Exists.ensures
 
 pub ground_condition-returns-in_ok-each-in-Forall : goal.ground_condition-returns-in_ok-each-in-Forall
 ground_condition-returns-in_ok-each-in-Forall t c =
-    ap All (c.from_vec-in-Forall.ensures ∙ c.in_ok-each-in-Forall.ensures
-    ∙ none_before c.new-in-Forall.result.items (map (ground_condition (world_of c.args.within.now) (numbering_of c.args.within.now) c.get-in-Forall.result.now)
-    (bindings (world_of c.args.within.now) c.as_slice-in-Forall.result.now (binding_of c.args.scope.now))) c.new-in-Forall.ensures.items)
+    ap All (c.from_vec-in-Forall.ensures ∙ c.in_ok-each-in-Forall.ensures)
     ∙ ground-Forall (world_of c.args.within.now) (numbering_of c.args.within.now) c.args.condition.now c.in-Forall.inner c.get-in-Forall.result.now
     c.in-Forall.variables c.as_slice-in-Forall.result.now (binding_of c.args.scope.now) c.in-Forall.is c.get-in-Forall.ensures c.as_slice-in-Forall.ensures
+
+-- ---- all ways to bind variables
+
+pub ground_ways-returns-then-count_bindings-eq0 : goal.ground_ways-returns-then-count_bindings-eq0
+ground_ways-returns-then-count_bindings-eq0 t c =
+    let w = world_of c.args.within.now in
+    let none = no_ways c.args.within.now c.args.variables.now (binding_of c.args.scope.now) (sym c.count_bindings.ensures ∙ c.if-count_bindings-eq0.true) in
+    c.new-none.ensures.items ∙ sym (ap (map (ground_condition w (numbering_of c.args.within.now) c.args.inner.now)) none)
+
+pub ground_ways-returns : goal.ground_ways-returns
+ground_ways-returns t c =
+    let each = map (ground_condition (world_of c.args.within.now) (numbering_of c.args.within.now) c.args.inner.now)
+    (bindings (world_of c.args.within.now) c.args.variables.now (binding_of c.args.scope.now)) in
+    subst (λ l. IfOk c.ground_bound.result (λ v. v.items ≡ l)) (none_before c.new-none.result.items each c.new-none.ensures.items) c.ground_bound.ensures

@@ -11,13 +11,16 @@ use Rattle.ground_conditions.proofs.GroundSteps.{mass, of_object}
 use Rattle.ground_conditions.proofs.grounding.+grounding.Given as goal
 
 abbrev pub decreases-ground_condition : goal.decreases-ground_condition
-decreases-ground_condition l = 2 * mass l.condition.now
+decreases-ground_condition l = 3 * mass l.condition.now
 
 abbrev pub decreases-ground_each : goal.decreases-ground_each
-decreases-ground_each l = 2 * total mass l.parts.now + 1
+decreases-ground_each l = 3 * total mass l.parts.now + 1
 
 abbrev pub decreases-ground_bound : goal.decreases-ground_bound
-decreases-ground_bound l = 2 * mass l.inner.now + length l.variables.now + 1
+decreases-ground_bound l = 3 * mass l.inner.now + length l.variables.now + 1
+
+abbrev pub decreases-ground_ways : goal.decreases-ground_ways
+decreases-ground_ways l = 3 * mass l.inner.now + length l.variables.now + 2
 
 abbrev pub invariant-ground_bound-loop-object : goal.invariant-ground_bound-loop-object
 invariant-ground_bound-loop-object l =
