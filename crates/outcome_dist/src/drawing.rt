@@ -15,7 +15,7 @@ use crate::denominators::{branch_factor, inner_denominator, own_denominator, tim
 use choice_lists::{Draft, JointRefusal, Merging, Product, guard_all};
 use ground_conditions::{Binding, atom_numbers, ground_condition};
 use ground_names::Scope;
-use ground_sizes::objects_of;
+use ground_sizes::{count_bindings, objects_of};
 use ppddl_model::{Branch, Effect, Param};
 use std::alloc::{AllocError, Global};
 
@@ -63,7 +63,7 @@ pub(crate) fn draw(
             product.into_list()
         }
         Effect::Forall(variables, inner) => {
-            let product = draw_bound(
+            let product = draw_ways(
                 alloc,
                 &*within,
                 Product::new(alloc)?,
@@ -107,6 +107,36 @@ fn draw_each(
         product = product.put(factor)?;
     }
     Ok(product)
+}
+
+/// The product of the choices under all ways to bind the variables, behind what came before. Where a variable
+/// has no objects there are none, and the others are not bound, however many objects they have.
+#[cycle(drawing)]
+fn draw_ways(
+    alloc: Global,
+    within: &Binding<'_>,
+    before: Product,
+    variables: &[Param],
+    inner: &Effect,
+    scope: &Scope<'_>,
+) -> Result<Product, JointRefusal>
+    requires { IsTyped within.now.table.now }
+    ensures found { IfOk result (λ p. p
+        ≡ drawn before (choices (world_of within.now) (numbering_of within.now) inner.now)
+        (bindings (world_of within.now) variables.now (binding_of scope.now))) }
+    ensures narrow { IfOk result (λ _.
+        width before (choices (world_of within.now) (numbering_of within.now) inner.now)
+        (widest (world_of within.now) (numbering_of within.now) inner.now)
+        (bindings (world_of within.now) variables.now (binding_of scope.now)) ≤ MOST_CHOICES) }
+    ensures refused { IfErr result (λ r. IsWide r
+        (width before (choices (world_of within.now) (numbering_of within.now) inner.now)
+        (widest (world_of within.now) (numbering_of within.now) inner.now)
+        (bindings (world_of within.now) variables.now (binding_of scope.now)))) }
+{
+    if count_bindings(within.table, variables) == 0 {
+        return Ok(before);
+    }
+    draw_bound(alloc, &*within, before, &*variables, &*inner, &*scope)
 }
 
 /// The product of the choices under all ways to bind the variables, behind what came before.

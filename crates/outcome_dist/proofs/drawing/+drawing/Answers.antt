@@ -22,6 +22,7 @@ use Rattle.outcome_dist.proofs.EffectForms.{choices-Both, width-Both, choices-Fo
 use Rattle.outcome_dist.proofs.EffectForms.{first_variable, flat-map, tail_is, ok_always, drop-all}
 use Rattle.outcome_dist.proofs.Walks.{walk_start, walk_list, walk_one, walk_many, part_refused, put_refused, many_refused, drop_at}
 use Rattle.outcome_dist.proofs.Gathering.{whole, gathered_list, gathered_more, gather_refused, with_the_rest, rest_refused, all_narrow, branch_is, whole_same, width_is}
+use Rattle.ground_conditions.proofs.GroundSteps.{no_ways}
 use Rattle.outcome_dist.proofs.drawing.+drawing.Goals as goal
 
 -- ---- calls
@@ -31,16 +32,16 @@ draw-draw_each-requires t c =
     let size = mass-Both c.in-Both.parts in
     let whole = ap mass c.in-Both.is in
     let part = ap (total mass) c.as_slice.ensures in
-    let before : 2 * mass c.args.effect.now ≡ t = c.decreases in
+    let before : 3 * mass c.args.effect.now ≡ t = c.decreases in
     (omega (arith, size, whole, part, before), c.requires)
 
-pub draw-draw_bound-requires : goal.draw-draw_bound-requires
-draw-draw_bound-requires t c =
+pub draw-draw_ways-requires : goal.draw-draw_ways-requires
+draw-draw_ways-requires t c =
     let size = mass-Forall c.in-Forall.variables c.in-Forall.inner in
     let whole = ap mass c.in-Forall.is in
     let part = ap mass c.get.ensures in
     let count = ap length c.as_slice-in-Forall.ensures in
-    let before : 2 * mass c.args.effect.now ≡ t = c.decreases in
+    let before : 3 * mass c.args.effect.now ≡ t = c.decreases in
     (omega (arith, size, whole, part, count, before), c.requires)
 
 pub draw-draw-requires : goal.draw-draw-requires
@@ -48,7 +49,7 @@ draw-draw-requires t c =
     let size = mass-When c.in-When.condition c.in-When.inner in
     let whole = ap mass c.in-When.is in
     let part = ap mass c.get-in-When.ensures in
-    let before : 2 * mass c.args.effect.now ≡ t = c.decreases in
+    let before : 3 * mass c.args.effect.now ≡ t = c.decreases in
     (omega (arith, size, whole, part, before), c.requires)
 
 pub draw-draw_branches-requires : goal.draw-draw_branches-requires
@@ -56,21 +57,21 @@ draw-draw_branches-requires t c =
     let size = mass-Chance c.in-Chance.branches in
     let whole = ap mass c.in-Chance.is in
     let part = ap (total branch_mass) c.as_slice-in-Chance.ensures in
-    let before : 2 * mass c.args.effect.now ≡ t = c.decreases in
+    let before : 3 * mass c.args.effect.now ≡ t = c.decreases in
     (omega (arith, size, whole, part, before), c.requires)
 
 pub draw_each-draw-requires : goal.draw_each-draw-requires
 draw_each-draw-requires t c =
     let within = part-within mass c.args.parts.now c.loop-part.part-index c.part-item.result c.loop-part-test.true in
     let part = ap mass c.part-item.is in
-    let before : 2 * total mass c.args.parts.now + 1 ≡ t = c.decreases in
+    let before : 3 * total mass c.args.parts.now + 1 ≡ t = c.decreases in
     (omega (arith, within, part, before), c.requires)
 
 pub draw_branches-draw-requires : goal.draw_branches-draw-requires
 draw_branches-draw-requires t c =
     let within = part-within branch_mass c.args.branches.now c.loop-branch.branch-index c.branch-item.result c.loop-branch-test.true in
     let part = ap branch_mass c.branch-item.is in
-    let before : 2 * total branch_mass c.args.branches.now + 1 ≡ t = c.decreases in
+    let before : 3 * total branch_mass c.args.branches.now + 1 ≡ t = c.decreases in
     (omega (arith, within, part, before), c.requires)
 
 -- ---- forms
@@ -180,6 +181,19 @@ draw_each-put-requires t c =
     (choices_weigh (world_of c.args.within.now) (numbering_of c.args.within.now) c.part-item.result (binding_of c.args.scope.now))
 
 -- ---- bindings
+
+pub draw_ways-returns-then-count_bindings-eq0-clause-found : goal.draw_ways-returns-then-count_bindings-eq0-clause-found
+draw_ways-returns-then-count_bindings-eq0-clause-found t c =
+    let w : World = world_of c.args.within.now in let n : Numbering = numbering_of c.args.within.now in
+    sym (ap (drawn c.args.before (choices w n c.args.inner.now))
+    (no_ways c.args.within.now c.args.variables.now (binding_of c.args.scope.now) (sym c.count_bindings.ensures ∙ c.if-count_bindings-eq0.true)))
+
+pub draw_ways-returns-then-count_bindings-eq0-clause-narrow : goal.draw_ways-returns-then-count_bindings-eq0-clause-narrow
+draw_ways-returns-then-count_bindings-eq0-clause-narrow t c =
+    let w : World = world_of c.args.within.now in let n : Numbering = numbering_of c.args.within.now in
+    subst (λ l. width c.args.before (choices w n c.args.inner.now) (widest w n c.args.inner.now) l ≤ MOST_CHOICES)
+    (sym (no_ways c.args.within.now c.args.variables.now (binding_of c.args.scope.now) (sym c.count_bindings.ensures ∙ c.if-count_bindings-eq0.true)))
+    (omega arith)
 
 pub draw_bound-put-requires : goal.draw_bound-put-requires
 draw_bound-put-requires t c =

@@ -14,16 +14,19 @@ use Rattle.outcome_dist.proofs.Gathering.{Gathered}
 use Rattle.outcome_dist.proofs.drawing.+drawing.Given as goal
 
 abbrev pub decreases-draw : goal.decreases-draw
-decreases-draw l = 2 * mass l.effect.now
+decreases-draw l = 3 * mass l.effect.now
 
 abbrev pub decreases-draw_each : goal.decreases-draw_each
-decreases-draw_each l = 2 * total mass l.parts.now + 1
+decreases-draw_each l = 3 * total mass l.parts.now + 1
 
 abbrev pub decreases-draw_bound : goal.decreases-draw_bound
-decreases-draw_bound l = 2 * mass l.inner.now + length l.variables.now + 1
+decreases-draw_bound l = 3 * mass l.inner.now + length l.variables.now + 1
+
+abbrev pub decreases-draw_ways : goal.decreases-draw_ways
+decreases-draw_ways l = 3 * mass l.inner.now + length l.variables.now + 2
 
 abbrev pub decreases-draw_branches : goal.decreases-draw_branches
-decreases-draw_branches l = 2 * total branch_mass l.branches.now + 1
+decreases-draw_branches l = 3 * total branch_mass l.branches.now + 1
 
 abbrev pub invariant-draw_each-loop-part : goal.invariant-draw_each-loop-part
 invariant-draw_each-loop-part l =
