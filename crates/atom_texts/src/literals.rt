@@ -8,7 +8,7 @@ ghost use Rattle.ground_names.specs.Scopes.{binding_of};
 ghost use Rattle.atom_texts.specs.Texts.{with_texts, literal_texts, each_texts, branch_texts, bound_texts};
 
 use ground_names::{Scope, atom_text};
-use ground_sizes::objects_of;
+use ground_sizes::{count_bindings, objects_of};
 use plain_list::Text;
 use ppddl_model::{Branch, Effect, Param};
 use std::alloc::{AllocError, Global};
@@ -34,7 +34,7 @@ pub fn add_literals(
             Ok(())
         }
         Effect::Both(parts) => add_each(alloc, &*facts, texts, parts.as_slice(), &*scope),
-        Effect::Forall(variables, inner) => add_bound(
+        Effect::Forall(variables, inner) => add_ways(
             alloc,
             &*facts,
             texts,
@@ -84,6 +84,26 @@ fn add_branches(
         add_literals(alloc, &*facts, &mut *texts, &branch.effect, &*scope)?;
     }
     Ok(())
+}
+
+/// Puts in those of an effect under all ways to bind the variables. Where a variable has no objects there are
+/// none, and the others are not bound, however many objects they have.
+#[cycle(adding)]
+fn add_ways(
+    alloc: Global,
+    facts: &TaskFacts<'_>,
+    texts: &mut BTreeSet<Text>,
+    variables: &[Param],
+    inner: &Effect,
+    scope: &Scope<'_>,
+) -> Result<(), AllocError>
+    ensures { OnOk result (texts.new.keys ≡ with_texts texts.old.keys
+        (bound_texts (world facts.now) (binding_of scope.now) variables.now inner.now)) }
+{
+    if count_bindings(facts.table(), variables) == 0 {
+        return Ok(());
+    }
+    add_bound(alloc, &*facts, texts, &*variables, &*inner, &*scope)
 }
 
 /// Puts in those of an effect under all ways to bind the variables.

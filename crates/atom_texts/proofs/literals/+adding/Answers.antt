@@ -1,13 +1,17 @@
-use Rattle.std.proofs.Common.{◌≡◌, ℕ, true≢false, ◌+◌, ◌*◌, ◌∷◌, length, map, drop, get_or, refl, sym, ap, subst, ◌∙◌, arith}
-use Rattle.std.specs.Prelude.{◌==◌}
+use Rattle.std.proofs.Common.{◌≡◌, ℕ, true≢false, ◌+◌, ◌*◌, [], ◌∷◌, length, map, drop, get_or, refl, sym, ap, subst, ◌∙◌, arith}
+use Rattle.std.specs.Prelude.{◌==◌, flat_map}
 use Rattle.std.proofs.lemmas.Result.{IfOk-equal}
 use Rattle.weighted.specs.Mean.{total}
 use Rattle.ppddl_model.specs.declared.tree.Branch.{Branch}
-use Rattle.ppddl_model.specs.Objects.{World, objects_of}
+use Rattle.ppddl_model.specs.Objects.{World, objects_of, bindings}
+use Rattle.ppddl_model.specs.Changing.{literals}
 use Rattle.ppddl_model.specs.Steps.{world}
 use Rattle.type_table.specs.Types.{object_at}
+use Rattle.plain_list.specs.Texts.{list_text}
+use Rattle.ground_sizes.specs.Counted.{counted}
 use Rattle.ground_names.specs.Scopes.{binding_of}
 use Rattle.task_facts.specs.Facts.{table_of}
+use Rattle.task_facts.proofs.Ways.{no_ways}
 use Rattle.task_facts.proofs.Mass.{mass, branch_mass, mass-Both, mass-Chance, mass-Forall, mass-When, part_mass}
 use Rattle.atom_texts.specs.Texts.{with_texts, literal_texts, each_texts, branch_texts, bound_texts}
 use Rattle.atom_texts.proofs.Adding.{texts_more, texts-Both, texts-Chance, texts-When, texts-Forall, object_texts, first_texts, tail_is}
@@ -20,7 +24,7 @@ add_literals-add_each-requires t c =
     let size = mass-Both c.in-Both.parts in
     let whole = ap mass c.in-Both.is in
     let part = ap (total mass) c.as_slice.ensures in
-    let before : 2 * mass c.args.effect.now ≡ t = c.decreases in
+    let before : 3 * mass c.args.effect.now ≡ t = c.decreases in
     omega (arith, size, whole, part, before)
 
 pub add_literals-add_branches-requires : goal.add_literals-add_branches-requires
@@ -28,16 +32,16 @@ add_literals-add_branches-requires t c =
     let size = mass-Chance c.in-Chance.branches in
     let whole = ap mass c.in-Chance.is in
     let part = ap (total branch_mass) c.as_slice-in-Chance.ensures in
-    let before : 2 * mass c.args.effect.now ≡ t = c.decreases in
+    let before : 3 * mass c.args.effect.now ≡ t = c.decreases in
     omega (arith, size, whole, part, before)
 
-pub add_literals-add_bound-requires : goal.add_literals-add_bound-requires
-add_literals-add_bound-requires t c =
+pub add_literals-add_ways-requires : goal.add_literals-add_ways-requires
+add_literals-add_ways-requires t c =
     let size = mass-Forall c.in-Forall.variables c.in-Forall.inner in
     let whole = ap mass c.in-Forall.is in
     let part = ap mass c.get.ensures in
     let count = ap length c.as_slice-in-Forall.ensures in
-    let before : 2 * mass c.args.effect.now ≡ t = c.decreases in
+    let before : 3 * mass c.args.effect.now ≡ t = c.decreases in
     omega (arith, size, whole, part, count, before)
 
 pub add_literals-add_literals-requires : goal.add_literals-add_literals-requires
@@ -45,21 +49,21 @@ add_literals-add_literals-requires t c =
     let size = mass-When c.in-When.field-0 c.in-When.inner in
     let whole = ap mass c.in-When.is in
     let part = ap mass c.get-in-When.ensures in
-    let before : 2 * mass c.args.effect.now ≡ t = c.decreases in
+    let before : 3 * mass c.args.effect.now ≡ t = c.decreases in
     omega (arith, size, whole, part, before)
 
 pub add_each-add_literals-requires : goal.add_each-add_literals-requires
 add_each-add_literals-requires t c =
     let within = part_mass mass c.args.parts.now c.loop-part.part-index c.part-item.result c.loop-part-test.true in
     let part = ap mass c.part-item.is in
-    let before : 2 * total mass c.args.parts.now + 1 ≡ t = c.decreases in
+    let before : 3 * total mass c.args.parts.now + 1 ≡ t = c.decreases in
     omega (arith, within, part, before)
 
 pub add_branches-add_literals-requires : goal.add_branches-add_literals-requires
 add_branches-add_literals-requires t c =
     let within = part_mass branch_mass c.args.branches.now c.loop-branch.branch-index c.branch-item.result c.loop-branch-test.true in
     let part = ap branch_mass c.branch-item.is in
-    let before : 2 * total branch_mass c.args.branches.now + 1 ≡ t = c.decreases in
+    let before : 3 * total branch_mass c.args.branches.now + 1 ≡ t = c.decreases in
     omega (arith, within, part, before)
 
 -- ---- what is put in
@@ -94,11 +98,20 @@ pub add_literals-returns-in-Forall : goal.add_literals-returns-in-Forall
 add_literals-returns-in-Forall t c =
     let w = world c.args.facts.now in
     let b = binding_of c.args.scope.now in
-    IfOk-equal c.add_bound.result c.add_bound.new.texts.keys (with_texts c.args.texts.now.keys (bound_texts w b c.as_slice-in-Forall.result.now c.get.result.now))
-    (with_texts c.args.texts.now.keys (literal_texts w b c.args.effect.now)) c.add_bound.ensures
+    IfOk-equal c.add_ways.result c.add_ways.new.texts.keys (with_texts c.args.texts.now.keys (bound_texts w b c.as_slice-in-Forall.result.now c.get.result.now))
+    (with_texts c.args.texts.now.keys (literal_texts w b c.args.effect.now)) c.add_ways.ensures
     (ap (with_texts c.args.texts.now.keys)
     (texts-Forall w b c.args.effect.now c.in-Forall.inner c.get.result.now c.in-Forall.variables c.as_slice-in-Forall.result.now c.in-Forall.is
     c.get.ensures c.as_slice-in-Forall.ensures))
+
+pub add_ways-returns-then-count_bindings-eq0 : goal.add_ways-returns-then-count_bindings-eq0
+add_ways-returns-then-count_bindings-eq0 t c =
+    let w = world c.args.facts.now in
+    let b = binding_of c.args.scope.now in
+    let none = no_ways c.args.facts.now c.args.variables.now b
+    (ap (λ (v : World). counted (length (bindings v c.args.variables.now []))) (sym c.table.ensures.table)
+    ∙ sym c.count_bindings.ensures ∙ c.if-count_bindings-eq0.true) in
+    sym (ap (λ l. with_texts c.args.texts.now.keys (flat_map (λ b'. map list_text (literals w c.args.inner.now b')) l)) none)
 
 pub add_each-loop-part-preserved : goal.add_each-loop-part-preserved
 add_each-loop-part-preserved t c =

@@ -11,16 +11,19 @@ use Rattle.atom_texts.proofs.Adding.{object_texts}
 use Rattle.atom_texts.proofs.literals.+adding.Given as goal
 
 abbrev pub decreases-add_literals : goal.decreases-add_literals
-decreases-add_literals l = 2 * mass l.effect.now
+decreases-add_literals l = 3 * mass l.effect.now
 
 abbrev pub decreases-add_each : goal.decreases-add_each
-decreases-add_each l = 2 * total mass l.parts.now + 1
+decreases-add_each l = 3 * total mass l.parts.now + 1
 
 abbrev pub decreases-add_branches : goal.decreases-add_branches
-decreases-add_branches l = 2 * total branch_mass l.branches.now + 1
+decreases-add_branches l = 3 * total branch_mass l.branches.now + 1
 
 abbrev pub decreases-add_bound : goal.decreases-add_bound
-decreases-add_bound l = 2 * mass l.inner.now + length l.variables.now + 1
+decreases-add_bound l = 3 * mass l.inner.now + length l.variables.now + 1
+
+abbrev pub decreases-add_ways : goal.decreases-add_ways
+decreases-add_ways l = 3 * mass l.inner.now + length l.variables.now + 2
 
 abbrev pub invariant-add_each-loop-part : goal.invariant-add_each-loop-part
 invariant-add_each-loop-part l =
