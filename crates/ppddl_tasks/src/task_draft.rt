@@ -1,0 +1,71 @@
+//! Tasks that are read definition by definition.
+
+ghost use Rattle.std.specs.Prelude.{◌≡◌};
+ghost use Rattle.token_cursor.specs.Reading.{Gives};
+ghost use Rattle.ppddl_tasks.specs.Texts.{allowed, new_definition, finished};
+
+use crate::definition::Definition;
+use ppddl_model::{Domain, Task, TextCode, TextRefusal};
+use ppddl_names::Names;
+use token_cursor::Place;
+
+/// What the definitions so far define.
+#[derive(Drop)]
+pub(crate) enum TaskDraft {
+    /// Nothing.
+    Empty,
+    /// A domain, in this text, which declares these names.
+    OfDomain {
+        domain: Domain,
+        file: u8,
+        names: Names,
+    },
+    /// A domain and a problem of it.
+    Whole(Task),
+}
+
+impl TaskDraft {
+    /// Accepts what a definition at this place defines, where it may stand behind the definitions so far.
+    fn allow(&self, definition: Definition, place: Place) -> Result<(), TextRefusal>
+        ensures { Gives (λ _. tt) result (allowed self.now definition place) }
+    {
+        match definition {
+            Definition::Domain => match self {
+                TaskDraft::Empty => Ok(()),
+                TaskDraft::OfDomain { .. } | TaskDraft::Whole(_) => Err(place.refusal(
+                    TextCode::Twice,
+                )),
+            },
+            Definition::Problem => match self {
+                TaskDraft::Empty => Err(place.refusal(TextCode::NoDomain)),
+                TaskDraft::OfDomain { .. } => Ok(()),
+                TaskDraft::Whole(_) => Err(place.refusal(TextCode::Twice)),
+            },
+        }
+    }
+
+    /// Accepts what the word of a heading at this place defines.
+    pub(crate) fn accept(
+        &self,
+        definition: Option<Definition>,
+        place: Place,
+    ) -> Result<(), TextRefusal>
+        ensures { Gives (λ _. tt) result (new_definition self.now definition place) }
+    {
+        match definition {
+            Some(definition) => self.allow(definition, place),
+            None => Err(place.refusal(TextCode::Expected)),
+        }
+    }
+
+    /// The task, where the last text ends at this place.
+    pub(crate) fn finish(self, end: Place) -> Result<Task, TextRefusal>
+        ensures { Gives (λ task. task) result (finished self end) }
+    {
+        match self {
+            TaskDraft::Empty => Err(end.refusal(TextCode::NoDomain)),
+            TaskDraft::OfDomain { .. } => Err(end.refusal(TextCode::NoProblem)),
+            TaskDraft::Whole(task) => Ok(task),
+        }
+    }
+}
