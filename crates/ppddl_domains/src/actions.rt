@@ -17,7 +17,7 @@ use token_cursor::Cursor;
 /// The actions of a domain in the order of the text, with their names, which are found by hash.
 /// Contracts see the list.
 #[derive(Drop)]
-pub(crate) struct Actions {
+pub struct Actions {
     list: Vec<Action>,
     names: IndexSet<Text>,
 }

@@ -14,13 +14,19 @@ use token_cursor::Place;
 
 /// The sections of a domain that stood already, with what no declaration keeps.
 #[derive(Drop)]
-pub(crate) struct DomainDraft {
-    pub(crate) requirements: bool,
-    pub(crate) types: bool,
-    pub(crate) constants: Option<List<ObjectDecl>>,
-    pub(crate) predicates: bool,
-    pub(crate) functions: bool,
-    pub(crate) actions: Actions,
+pub struct DomainDraft {
+    /// `:requirements` stood.
+    pub requirements: bool,
+    /// `:types` stood.
+    pub types: bool,
+    /// The constants, where `:constants` stood.
+    pub constants: Option<List<ObjectDecl>>,
+    /// `:predicates` stood.
+    pub predicates: bool,
+    /// `:functions` stood.
+    pub functions: bool,
+    /// The actions so far.
+    pub actions: Actions,
 }
 
 /// The constants, of which there are none where no section has them.

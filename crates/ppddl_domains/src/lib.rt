@@ -6,4 +6,7 @@ mod domain_draft;
 mod domains;
 mod section;
 
+pub use actions::Actions;
+pub use domain_draft::DomainDraft;
 pub use domains::read_domain;
+pub use section::Section;

@@ -10,7 +10,7 @@ use ppddl_sections::symbols;
 
 /// A section of a domain.
 #[derive(Clone, Copy, Debug)]
-pub(crate) enum Section {
+pub enum Section {
     /// `:requirements`
     Requirements,
     /// `:types`

@@ -5,4 +5,6 @@ mod problem_draft;
 mod problems;
 mod section;
 
+pub use problem_draft::ProblemDraft;
 pub use problems::read_problem;
+pub use section::Section;

@@ -14,14 +14,21 @@ use token_cursor::Place;
 
 /// The sections of a problem that stood already, each with what it said.
 #[derive(Drop)]
-pub(crate) struct ProblemDraft {
-    pub(crate) domain: bool,
-    pub(crate) requirements: bool,
-    pub(crate) objects: Option<List<ObjectDecl>>,
-    pub(crate) start: Option<Start>,
-    pub(crate) goal: Option<Condition>,
-    pub(crate) goal_reward: Option<u64>,
-    pub(crate) metric: bool,
+pub struct ProblemDraft {
+    /// `:domain` stood.
+    pub domain: bool,
+    /// `:requirements` stood.
+    pub requirements: bool,
+    /// The objects, where `:objects` stood.
+    pub objects: Option<List<ObjectDecl>>,
+    /// What `:init` says, where it stood.
+    pub start: Option<Start>,
+    /// The goal, where `:goal` stood.
+    pub goal: Option<Condition>,
+    /// The goal reward, where `:goal-reward` stood, in micro-units.
+    pub goal_reward: Option<u64>,
+    /// `:metric` stood.
+    pub metric: bool,
 }
 
 /// The objects, of which there are none where no section has them.

@@ -10,7 +10,7 @@ use ppddl_sections::symbols::{CONSTANTS_FLAG, FUNCTIONS_FLAG, OBJECTS_FLAG, TYPE
 
 /// A section of a problem.
 #[derive(Clone, Copy, Debug)]
-pub(crate) enum Section {
+pub enum Section {
     /// `:domain`
     Domain,
     /// `:requirements`

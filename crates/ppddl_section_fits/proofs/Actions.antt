@@ -1,6 +1,6 @@
 -- Actions that are read fit, draw by probabilities, and have new names.
 --     DraftFits d s       what is known of an action while its fields are read
-use Rattle.std.proofs.Common.{◌≡◌, ℕ, Bool, true, false, ◌&&◌, List, [], ◌∷◌, ◌++◌, Option, Some, None, is_some, Result, Ok, refl, sym, ap, subst, ◌∙◌, append-nil}
+use Rattle.std.proofs.Common.{◌≡◌, ℕ, true, false, ◌&&◌, List, [], ◌∷◌, ◌++◌, Option, Some, None, is_some, Ok, refl, sym, subst, ◌∙◌, append-nil}
 use Rattle.std.specs.List.{list_any}
 use Rattle.std.proofs.lemmas.Bool.{and_parts, and_from}
 use Rattle.plain_list.specs.Results.{◌>>=◌}
@@ -8,12 +8,10 @@ use Rattle.plain_list.proofs.Results.{bind_ok, ok_is, test_fails}
 use Rattle.ppddl_model.specs.declared.tree.Action.{Action}
 use Rattle.ppddl_model.specs.declared.tree.Condition.{Condition}
 use Rattle.ppddl_model.specs.declared.tree.Condition.TheVariants as condition_of
-use Rattle.ppddl_model.specs.declared.tree.Domain.{Domain}
 use Rattle.ppddl_model.specs.declared.tree.Effect.{Effect}
 use Rattle.ppddl_model.specs.declared.tree.Effect.TheVariants as effect_of
 use Rattle.ppddl_model.specs.declared.tree.Param.{Param}
 use Rattle.ppddl_model.specs.Draws.{EachDraw}
-use Rattle.ppddl_model.specs.Objects.{World}
 use Rattle.ppddl_model.specs.WellFormed.{is_plain, are_distinct, params_fit, condition_fits, effect_fits, action_fits, AreProbabilities}
 use Rattle.ppddl_names.specs.Declarations.{Declared, world_of}
 use Rattle.token_cursor.specs.declared.place.Place.{Place}
@@ -24,14 +22,14 @@ use Rattle.token_cursor.specs.Sequences.{of_word, checking, in_group, one_then, 
 use Rattle.ppddl_forms.specs.declared.name.Name.{Name}
 use Rattle.ppddl_forms.specs.Conditions.{condition, condition_in}
 use Rattle.ppddl_forms.specs.Effects.{effect, effect_in}
-use Rattle.ppddl_forms.specs.Variables.{variables, variable_list}
+use Rattle.ppddl_forms.specs.Variables.{variable_list}
 use Rattle.ppddl_forms.specs.Words.{name}
 use Rattle.ppddl_sections.specs.declared.action_draft.ActionDraft.{ActionDraft}
 use Rattle.ppddl_sections.specs.declared.field.Field.{Field}
 use Rattle.ppddl_sections.specs.declared.field.Field.TheVariants as field_named
 use Rattle.ppddl_sections.specs.Actions.{field_of, no_fields, has_field, new_field, field, params_given, condition_given, effect_given, scope_of, with_params, with_condition, with_effect}
 use Rattle.ppddl_sections.specs.Actions.{params_field, condition_field, effect_field, field_value, fields, not_seen, new_action, action_of, action}
-use Rattle.ppddl_fits.specs.Growth.{domain_of, AreDeclaredIn}
+use Rattle.ppddl_fits.specs.Growth.{domain_of}
 use Rattle.ppddl_fits.proofs.Declared.{distinct-grows, name_is_plain}
 use Rattle.ppddl_fits.proofs.Reading.{condition-fits, effect-fits, effect-draws}
 use Rattle.ppddl_fits.proofs.Atoms.{IsLater, params_fit-grows}
@@ -179,14 +177,14 @@ module _ (d : Declared) where
         whole = ok_is {E = Fault} (action_of r.0 q.0) a q.2;
       }
 
+  no_form : (seen : List (List ℕ)) (b : Place) (a : Action) → action d seen none b ≡ Ok a → ⊥
+  unfolding action one_then
+  no_form seen b a is = absurd cc
+
   -- what holds of an action that has been read by its name and its fields
   module _ (seen : List (List ℕ)) (P : Forms → Action → Type 0) (one : (f : Form) (fs : Forms) (a : Action) → Reads seen f a → P (more f fs) a) where
     action-has : (fs : Forms) (b : Place) (a : Action) → action d seen fs b ≡ Ok a → P fs a
-    action-has none b a is = absurd (no_form b a is)
-      where
-        no_form : (b : Place) (a : Action) → action d seen none b ≡ Ok a → ⊥
-        unfolding action one_then
-        no_form b a is = absurd cc
+    action-has none b a is = absurd (no_form seen b a is)
     action-has (more f fs) b a is = one f fs a (first-reads seen f fs b a is)
 
   whole-fits : (word : Name) (s : ActionDraft) → is_plain word.text ≡ true → DraftFits s → action_fits (world_of d) (domain_of d) (action_of word s) ≡ true

@@ -3,8 +3,8 @@ use Rattle.std.proofs.Common.{◌≡◌, ℕ, List, [], ◌∷◌, true, ◌||�
 use Rattle.std.specs.Cmp.Lexicographic.{bytes_decides}
 use Rattle.std.specs.List.{list_any}
 use Rattle.std.proofs.lemmas.Bool.{and_from, false_from_ne_true}
+use Rattle.std.proofs.lemmas.Str.Ascii.{lowercase-lowercase}
 use Rattle.ppddl_lex.specs.Words.{lowered, is_name, is_same_word}
-use Rattle.ppddl_lex.proofs.Lowered.{lowered_once}
 use Rattle.ppddl_model.specs.State.{same_name}
 use Rattle.ppddl_model.proofs.States.{same_name-Decides}
 use Rattle.token_cursor.specs.Ahead.{same}
@@ -14,6 +14,10 @@ use Rattle.ppddl_forms.specs.Words.{name}
 use Rattle.ppddl_fits.proofs.Tests.{by_test}
 use Rattle.ppddl_section_fits.specs.Names.{is_lower_name, IsLower, AreLower}
 use Rattle.ppddl_section_fits.proofs.Walks.{AllForms, name-read}
+
+lowered_once : (w : List ℕ) → lowered (lowered w) ≡ lowered w
+lowered_once [] = refl
+lowered_once (b ∷ bs) = cc (lowercase-lowercase b, lowered_once bs)
 
 mutual
   form-lowered : (f : Form) → IsLower (lowered_form f)

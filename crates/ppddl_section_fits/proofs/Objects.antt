@@ -1,5 +1,5 @@
 -- Objects that are read fit, and have names in lower case.
-use Rattle.std.proofs.Common.{◌≡◌, true, List, ◌∷◌, refl}
+use Rattle.std.proofs.Common.{◌≡◌, true, List, refl}
 use Rattle.std.specs.List.{list_all}
 use Rattle.std.proofs.lemmas.Bool.{and_from}
 use Rattle.ppddl_model.specs.declared.tree.ObjectDecl.{ObjectDecl}
@@ -35,7 +35,7 @@ module _ (d : Declared) where
     behind_named kind fs os by.untyped lower = refl
     behind_named kind fs os (by.another {f = f} {fs = gs} {o = o} {os = others} named behind) lower =
         and_from (is_lower_name o) (list_all is_named_object others) (one_lower f o named lower.0) (behind_named kind gs others behind lower.1)
-    behind_named kind fs os (by.typed {fs = gs} known typed) lower = typed_named gs os typed lower.1.1
+    behind_named kind fs os (by.typed {fs = gs} its_type typed) lower = typed_named gs os typed lower.1.1
 
   list_named : (fs : Forms) (os : List ObjectDecl) → IsObjectList d fs os → AreLower fs → list_all is_named_object os ≡ true
   list_named fs os (by.objects typed have) lower = typed_named fs os typed lower

@@ -1,6 +1,6 @@
 -- Predicates and functions that are read: more of them, none twice, with parameters that fit and names in lower case.
 --     Declares ds types f p      a form declares one more behind ds
-use Rattle.std.proofs.Common.{◌≡◌, ℕ, Bool, true, false, List, [], ◌∷◌, ◌++◌, Option, Some, None, is_some, Result, Ok, refl, sym, ap, subst, ◌∙◌, append_assoc, append-nil}
+use Rattle.std.proofs.Common.{◌≡◌, ℕ, true, false, List, [], ◌∷◌, ◌++◌, Option, Some, None, is_some, Result, Ok, refl, sym, ap, subst, ◌∙◌, append_assoc, append-nil}
 use Rattle.std.specs.List.{list_all}
 use Rattle.std.proofs.lemmas.Bool.{and_from}
 use Rattle.plain_list.specs.Results.{◌>>=◌}
@@ -23,7 +23,7 @@ use Rattle.ppddl_sections.specs.Predicates.{not_taken, declaration, new_predicat
 use Rattle.ppddl_fits.proofs.Declared.{declaration_fits}
 use Rattle.ppddl_fits.proofs.Tests.{all-both}
 use Rattle.ppddl_fits.proofs.Variables.{variables_fit}
-use Rattle.ppddl_section_fits.specs.Fitting.{IsFit, with_predicates, with_functions, DeclaresPredicates, DeclaresFunctions}
+use Rattle.ppddl_section_fits.specs.Fitting.{IsFit, DeclaresPredicates, DeclaresFunctions}
 use Rattle.ppddl_section_fits.specs.Laws.{PredicatesAreDeclared, FunctionsAreDeclared, PredicatesKeepFit, FunctionsKeepFit, PredicatesHaveNames, FunctionsHaveNames}
 use Rattle.ppddl_section_fits.specs.Names.{is_lower_name, is_named, IsLower, HaveLowerNames}
 use Rattle.ppddl_section_fits.proofs.Lower.{lower-each, lower_name}
@@ -133,16 +133,14 @@ function-named d f e have lower is =
 
 predicate-behind : (d s : Declared) (f : Form) (t : Declared) → DeclaresPredicates d s → predicate s f ≡ Ok t → DeclaresPredicates d t
 predicate-behind d s f t before is =
-    let r = predicate-declares s f t is in
-    (
+    let r = predicate-declares s f t is in (
       before.0 ++ r.0 ∷ [],
       sym r.1 ∙ ap (λ u. with_predicate u r.0) before.1 ∙ ap (λ l. record d { predicates = l }) (append_assoc d.predicates before.0 (r.0 ∷ [])),
     )
 
 function-behind : (d s : Declared) (f : Form) (t : Declared) → DeclaresFunctions d s → function s f ≡ Ok t → DeclaresFunctions d t
 function-behind d s f t before is =
-    let r = function-declares s f t is in
-    (
+    let r = function-declares s f t is in (
       before.0 ++ r.0 ∷ [],
       sym r.1 ∙ ap (λ u. with_function u r.0) before.1 ∙ ap (λ l. record d { functions = l }) (append_assoc d.functions before.0 (r.0 ∷ [])),
     )

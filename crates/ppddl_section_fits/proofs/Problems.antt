@@ -1,13 +1,11 @@
 -- What is read of a problem's start and goal fits, and draws by probabilities.
 --     StartSoFar w domain s     what is known of `:init` while it is read
-use Rattle.std.proofs.Common.{◌≡◌, ℕ, true, false, All, List, [], ◌∷◌, ◌++◌, Some, Ok, refl, subst}
+use Rattle.std.proofs.Common.{◌≡◌, true, All, [], ◌∷◌, Some, Ok, refl, subst}
 use Rattle.std.specs.List.{list_all}
 use Rattle.std.proofs.lemmas.Bool.{and_from}
 use Rattle.std.proofs.lemmas.List.Elements.{All-nil, All-push}
-use Rattle.plain_list.specs.Results.{◌>>=◌}
 use Rattle.plain_list.proofs.Results.{bind_ok, ok_is}
 use Rattle.ppddl_model.specs.declared.limits.TheConstants.{MOST_PENALTY}
-use Rattle.ppddl_model.specs.declared.tree.Condition.{Condition}
 use Rattle.ppddl_model.specs.declared.tree.Domain.{Domain}
 use Rattle.ppddl_model.specs.declared.tree.InitItem.{InitItem}
 use Rattle.ppddl_model.specs.declared.tree.InitItem.TheVariants as tree
@@ -17,7 +15,7 @@ use Rattle.ppddl_model.specs.WellFormed.{condition_fits, item_fits, values_fit, 
 use Rattle.ppddl_names.specs.Declarations.{Declared}
 use Rattle.token_cursor.specs.declared.place.Place.{Place}
 use Rattle.token_cursor.specs.Forms.{Form, Forms, none, more}
-use Rattle.token_cursor.specs.Reading.{Fault, ends}
+use Rattle.token_cursor.specs.Reading.{Fault}
 use Rattle.token_cursor.specs.Sequences.{checking, one_then, last}
 use Rattle.ppddl_forms.specs.Conditions.{condition}
 use Rattle.ppddl_forms.specs.Words.{amount}

@@ -1,7 +1,7 @@
 -- Types that are read: more of them, none twice and none above itself, with names in lower case.
 --     all_under-..         what holds of each type under a parent, and the names in their order
 --     Listed               what is kept of types while they are read
-use Rattle.std.proofs.Common.{◌≡◌, ℕ, Bool, true, false, not, ◌&&◌, cond, List, [], ◌∷◌, ◌++◌, length, map, filter, codes, Result, Ok, refl, sym, ap, subst, ◌∙◌, true≢false, append_assoc, append-nil}
+use Rattle.std.proofs.Common.{◌≡◌, Bool, true, false, not, ◌&&◌, ◌||◌, cond, List, [], ◌∷◌, ◌++◌, length, map, filter, codes, Ok, refl, sym, ap, subst, ◌∙◌, true≢false, append_assoc, append-nil}
 use Rattle.std.specs.List.{list_any, list_all}
 use Rattle.std.proofs.lemmas.Bool.{and_parts, and_from, or_parts, or_left, not_from_false, false_from_ne_true}
 use Rattle.std.proofs.lemmas.List.{map-append}
@@ -14,7 +14,7 @@ use Rattle.ppddl_model.specs.WellFormed.{are_distinct, types_fit}
 use Rattle.ppddl_names.specs.Declarations.{Declared, with_types}
 use Rattle.token_cursor.specs.declared.place.Place.{Place}
 use Rattle.token_cursor.specs.Ahead.{same}
-use Rattle.token_cursor.specs.Forms.{Form, Forms, lone, group}
+use Rattle.token_cursor.specs.Forms.{Form, lone, group}
 use Rattle.token_cursor.specs.Reading.{Fault}
 use Rattle.token_cursor.specs.Sequences.{checking, word_or_group}
 use Rattle.type_table.specs.Types.{table_world, is_circular, has_cycle}
@@ -22,7 +22,7 @@ use Rattle.ppddl_forms.specs.declared.name.Name as word
 use Rattle.ppddl_forms.specs.declared.symbols.TheConstants.{OBJECT}
 use Rattle.ppddl_forms.specs.Words.{name}
 use Rattle.ppddl_items.specs.Sequences.{unsupported}
-use Rattle.ppddl_sections.specs.Types.{ListedTypes, no_types, is_object, with_waiting, with_seen, seen_type, new_type, another_type, types_wait, under, all_under, with_parent, parent_type, types_under, all_types, types}
+use Rattle.ppddl_sections.specs.Types.{ListedTypes, no_types, is_object, with_waiting, with_seen, seen_type, new_type, another_type, types_wait, under, all_under, with_parent, parent_type, types_under, all_types}
 use Rattle.ppddl_grammar.proofs.Parts.{on_true, on_false}
 use Rattle.ppddl_fits.proofs.Declared.{distinct-grows, types-fit, objects-grow, declarations-grow}
 use Rattle.ppddl_fits.proofs.Tests.{by_test, all-both}
@@ -111,7 +111,7 @@ none_top all [] proper acyclic = refl
 none_top all (t ∷ ts) proper acyclic =
     let own = and_parts (is_proper t) (list_all is_proper ts) proper in
     let cycles = or_parts (is_circular all t) (list_any (is_circular all) ts) acyclic in
-    ap (λ b. cond b true (list_any is_top_type ts)) (below_top all t own.0 cycles.0) ∙ none_top all ts own.1 cycles.1
+    ap (λ b. b || list_any is_top_type ts) (below_top all t own.0 cycles.0) ∙ none_top all ts own.1 cycles.1
 
 -- where no type is `object`, all names are kept
 others_only : (ts : List TypeDecl) → list_any is_top_type ts ≡ false → filter is_other (names_of ts) ≡ names_of ts

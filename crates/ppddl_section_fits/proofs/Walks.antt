@@ -4,7 +4,7 @@
 --     pairs-keep          two forms at a time
 --     typed-gives         a typed list, up to what is made of it at its end
 --     name-read           a name, in lower case where its form is
-use Rattle.std.proofs.Common.{◌≡◌, ℕ, List, Bool, true, false, cond, Result, Ok, Err, refl, subst}
+use Rattle.std.proofs.Common.{◌≡◌, Bool, true, false, cond, Result, Ok, subst}
 use Rattle.plain_list.specs.Results.{◌>>=◌}
 use Rattle.plain_list.proofs.Results.{bind_ok, ok_is, test_passes}
 use Rattle.ppddl_lex.specs.Words.{lowered, is_name}

@@ -25,7 +25,7 @@ use Rattle.ppddl_model.specs.Objects.{World}
 use Rattle.ppddl_model.specs.WellFormed.{are_distinct, condition_fits, action_fits, item_fits, values_fit, reward_fits, AreProbabilities}
 use Rattle.ppddl_names.specs.Declarations.{Declared, with_objects, world_of}
 use Rattle.token_cursor.specs.declared.place.Place.{Place}
-use Rattle.token_cursor.specs.Forms.{Form, Forms, lowered_form, lowered_forms}
+use Rattle.token_cursor.specs.Forms.{Forms, lowered_forms}
 use Rattle.ppddl_objects.specs.Objects.{objects}
 use Rattle.ppddl_fits.specs.Growth.{domain_of, AreDeclaredIn}
 use Rattle.ppddl_sections.specs.declared.start.Start.{Start}
@@ -35,7 +35,7 @@ use Rattle.ppddl_sections.specs.Predicates.{predicates, functions}
 use Rattle.ppddl_sections.specs.Starts.{start}
 use Rattle.ppddl_sections.specs.Types.{types}
 use Rattle.ppddl_section_fits.specs.Fitting.{IsFit, DeclaresTypes, DeclaresPredicates, DeclaresFunctions}
-use Rattle.ppddl_section_fits.specs.Names.{is_lower_name, IsLower, AreLower, HaveLowerNames}
+use Rattle.ppddl_section_fits.specs.Names.{is_lower_name, AreLower, HaveLowerNames}
 
 -- ---- what a section declares
 

@@ -1,3 +1,4 @@
 pub mod Fitting
 pub mod Names
 pub mod Laws
+pub mod Examples

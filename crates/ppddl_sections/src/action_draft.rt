@@ -13,10 +13,13 @@ use token_cursor::Place;
 
 /// The fields of an action that stood already.
 #[derive(Drop)]
-pub(crate) struct ActionDraft {
-    pub(crate) params: Option<List<Param>>,
-    pub(crate) condition: Option<Condition>,
-    pub(crate) effect: Option<Effect>,
+pub struct ActionDraft {
+    /// The parameters.
+    pub params: Option<List<Param>>,
+    /// The precondition.
+    pub condition: Option<Condition>,
+    /// The effect.
+    pub effect: Option<Effect>,
 }
 
 /// The parameters, of which there are none where no field has them.

@@ -9,7 +9,7 @@ use ppddl_lex::{is_same_word, keywords};
 
 /// A field of an action.
 #[derive(Clone, Copy, Debug)]
-pub(crate) enum Field {
+pub enum Field {
     /// `:parameters`
     Parameters,
     /// `:precondition`

@@ -8,7 +8,7 @@ use ppddl_lex::{is_same_word, keywords};
 
 /// What a definition defines.
 #[derive(Clone, Copy, Debug)]
-pub(crate) enum Definition {
+pub enum Definition {
     /// `domain`
     Domain,
     /// `problem`

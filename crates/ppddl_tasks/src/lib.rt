@@ -6,4 +6,6 @@ mod definitions;
 mod task_draft;
 mod texts;
 
+pub use definition::Definition;
+pub use task_draft::TaskDraft;
 pub use texts::read;

@@ -11,7 +11,7 @@ use token_cursor::Place;
 
 /// What the definitions so far define.
 #[derive(Drop)]
-pub(crate) enum TaskDraft {
+pub enum TaskDraft {
     /// Nothing.
     Empty,
     /// A domain, in this text, which declares these names.

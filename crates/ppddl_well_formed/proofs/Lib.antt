@@ -1,0 +1,4 @@
+pub mod Parts
+pub mod Domains
+pub mod Problems
+pub mod Texts
