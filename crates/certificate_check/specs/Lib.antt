@@ -1,5 +1,6 @@
 pub mod Claims
 pub mod Verdicts
+pub mod Codes
 pub mod GroundRows
 pub mod Pass
 pub mod Laws

@@ -1,194 +1,99 @@
--- What the status says of the words and of the texts, from how the run may end.
-use Rattle.std.proofs.Common.{◌≡◌, ◌≢◌, ℕ, ◌⊎◌, inl, inr, List, refl, sym, ap, ◌∙◌, subst, arith, Option, Some, None, Ok, Err, Result}
+-- The clauses of the top call, from how the words may end and what was put.
+use Rattle.std.proofs.Common.{◌≡◌, ◌≢◌, ℕ, ◌⊎◌, inl, inr, List, refl, sym, ap, ◌∙◌, subst, arith, Option, Some, None, Result, Ok, Err}
 use Rattle.std.specs.Prelude.{◌↔◌}
 use Rattle.std.specs.Borrow.{Bor}
 use Rattle.std.specs.Io.KnownBytes.{Appends}
 use Rattle.shelf_io.specs.Causes.{Rose}
-use Rattle.shelf_io.specs.Shelf.{Told, Holds, MayHold}
+use Rattle.shelf_io.specs.Shelf.{Told}
 use Rattle.shelf_io.specs.Streams.{PutsPrefix}
-use Rattle.certificate.specs.Content.{Content}
+use Rattle.certificate.specs.Laws.{TextsAreRead}
+use Rattle.certificate_check.specs.Laws.{AcceptedIsBalanced}
+use Rattle.ppddl_model.specs.Chances.{AllSumWithinOne}
+use Rattle.ppddl_model.specs.Laws.{WellFormedSums}
 use Rattle.ppddl_model.specs.declared.tree.Task.{Task}
-use Rattle.ppddl_model.specs.Steps.{Charges}
-use Rattle.plan_app.specs.declared.stop.Stop.{Stop}
-use Rattle.plan_app.specs.declared.stop.Stop.TheVariants.{BadWords, ReadFailed, NoMemory, Limit, Refused, NotAccepted}
-use Rattle.plan_app.specs.Request.{Asked, request_by}
-use Rattle.plan_app.specs.Stop.{status_of, text_of}
-use Rattle.plan_app.specs.Balanced.{IsBalancedFor}
-use Rattle.plan_app.specs.Inputs.{IsTooLong, IsRefused, IsTextOfTask, IsDecoded, IsAccepted, IsRejected}
-use Rattle.plan_app.specs.Ending.{MayHoldTask, IsMissing, MayEndRequest, MayEnd, MayEndAs, HasVerdict, IsAnswer, IsTold, PutsReport}
-use Rattle.plan_app.specs.Parts.{IsSaid, SaysPut, SaysCutShort}
-use Rattle.plan_app.proofs.Enclosed.{start_den_positive, balanced_encloses_for}
+use Rattle.task_certificates.specs.Laws.{BalanceIsCarried, TaskIsEnclosed, TaskPolicyEnds}
+use Rattle.plan_request.specs.Asked.{Sources, Asked, to_check, to_ground}
+use Rattle.plan_request.specs.Laws.{AreTerms}
+use Rattle.plan_report.specs.Reports.{accepted_text}
+use Rattle.plan_stop.specs.declared.stop.Stop.TheVariants.{BadWords, ReadFailed, NoMemory, Refused, NotAccepted, Limit}
+use Rattle.plan_stop.specs.Stop.{Ending, ending_status, ending_text}
+use Rattle.plan_sources.specs.declared.texts.Texts.{Texts}
+use Rattle.plan_sources.specs.Laws.{OneProblemIsTold, TextsStopSo, ProblemStands}
+use Rattle.plan_app.specs.Asking.{asked_by, Asks, AsksNothing}
+use Rattle.plan_app.specs.Endings.{Lacks, Answers, MayEndRequest, MayEndWords, MayEndAs}
+use Rattle.plan_app.specs.Verdicts.{TellsTexts, TellsGround, TellsCheck, HasVerdict, IsAnswer, IsRefused, IsLimited, IsGrounded, IsAccepted, IsRejected, PutsProblem, PutsReport}
+use Rattle.plan_app.specs.Putting.{IsSaid, SaysPut, SaysCutShort}
+use Rattle.plan_app.proofs.Verdict.{answers_words, text_verdict, ground_verdict, ground_reported, check_verdict, check_reported}
 
--- what a shelf tells of a name is what it may hold
-told_held : (told : Told) (bytes found : List ℕ) → told ≡ Holds bytes → MayHold told found → found ≡ bytes
-told_held told bytes found is (inl untold) = absurd (cc (is, untold))
-told_held told bytes found is (inr holds) = cc (is, holds)
-
--- ---- the verdicts exclude each other
-
-module _ (domain : List ℕ) where
-  not_refused_and_long : IsRefused domain → IsTooLong domain → ⊥
-  not_refused_and_long refused long = omega (arith, refused.short, long)
-
-  not_task_and_refused : (task : Task) (charges : Charges) → IsTextOfTask domain task charges → IsRefused domain → ⊥
-  not_task_and_refused task charges text refused = cc (text.thin, refused.not_thin)
-
-  not_task_and_long : (task : Task) (charges : Charges) → IsTextOfTask domain task charges → IsTooLong domain → ⊥
-  not_task_and_long task charges text long = omega (arith, text.short, long)
-
-  not_accepted_and_refused : (f : List ℕ) → IsAccepted domain f → IsRefused domain → ⊥
-  not_accepted_and_refused f (task, charges, c, text, decoded, balanced) refused = not_task_and_refused task charges text refused
-
-  not_accepted_and_long : (f : List ℕ) → IsAccepted domain f → IsTooLong domain → ⊥
-  not_accepted_and_long f (task, charges, c, text, decoded, balanced) long = not_task_and_long task charges text long
-
-  not_rejected_and_refused : (f : List ℕ) → IsRejected domain f → IsRefused domain → ⊥
-  not_rejected_and_refused f (task, charges, text, none) refused = not_task_and_refused task charges text refused
-
-  not_rejected_and_long : (f : List ℕ) → IsRejected domain f → IsTooLong domain → ⊥
-  not_rejected_and_long f (task, charges, text, none) long = not_task_and_long task charges text long
-
-  not_accepted_and_rejected : (f : List ℕ) → IsAccepted domain f → IsRejected domain f → ⊥
-  not_accepted_and_rejected f (task, charges, c, text, decoded, balanced) (task', charges', text', none) =
-      let same : task ≡ task' = cc (text.thin, text'.thin) in
-      let charged : charges ≡ charges' = cc (text.charged, text'.charged, same) in
-      none c decoded (subst (λ p. IsBalancedFor task' p c) charged (subst (λ t. IsBalancedFor t charges c) same balanced))
-
--- a status that an ending has, and one that it has not
-yes : (n : ℕ) (P : Type 0) → P → (n ≡ n) ↔ P
-yes n P holds = ((λ is. holds), (λ also. refl))
-
-no : (m n : ℕ) (P : Type 0) → m ≢ n → (P → ⊥) → (m ≡ n) ↔ P
-no m n P other fails = ((λ is. absurd (other is)), (λ holds. absurd (fails holds)))
-
--- ---- how a request may end
-
-module _ {S : Type 0} (held : S → List ℕ → Told) (reads : S → ℕ) (old new : S) (q : Asked) where
-  -- a request has words
-  asked_for : (e : Result (List ℕ) Stop) → MayEndRequest held reads old new q e → status_of e ≢ 2
-  asked_for (Err BadWords) ends is = ends
-  asked_for (Ok report) ends is = omega (arith, is)
-  asked_for (Err ReadFailed) ends is = omega (arith, is)
-  asked_for (Err _) ends is = omega (arith, is)
-
-  not_read : (e : Result (List ℕ) Stop) → MayEndRequest held reads old new q e → status_of e ≡ 3 → Rose (reads old) (reads new) ⊎ IsMissing (held old) q
-  not_read (Err ReadFailed) ends is = ends
-  not_read (Ok report) ends is = absurd (omega (arith, is))
-  not_read (Err _) ends is = absurd (omega (arith, is))
-
-  -- a request whose reads went well has an answer
-  answer : (e : Result (List ℕ) Stop) → MayEndRequest held reads old new q e → (Rose (reads old) (reads new) → ⊥) → (IsMissing (held old) q → ⊥) → IsAnswer (status_of e)
-  answer (Ok report) ends rose missing = (0, omega arith, refl)
-  answer (Err NoMemory) ends rose missing = (1, omega arith, refl)
-  answer (Err (Refused code file line)) ends rose missing = (2, omega arith, refl)
-  answer (Err (NotAccepted code row)) ends rose missing = (3, omega arith, refl)
-  answer (Err (Limit code most)) ends rose missing = (4, omega arith, refl)
-  answer (Err BadWords) ends rose missing = absurd ends
-  answer (Err ReadFailed) (inl rises) rose missing = absurd (rose rises)
-  answer (Err ReadFailed) (inr lacks) rose missing = absurd (missing lacks)
-
-  module _ (domain : List ℕ) (told : held old q.domain ≡ Holds domain) where
-    text_at : (task : Task) (may_hold : MayHoldTask (held old q.domain) task) → IsTextOfTask domain task may_hold.charges
-    text_at task may_hold = subst (λ text. IsTextOfTask text task may_hold.charges) (told_held _ domain may_hold.domain told may_hold.held) may_hold.text
-
-    -- what the status says of the planning text
-    text_verdict : (e : Result (List ℕ) Stop) → MayEndRequest held reads old new q e → HasVerdict (status_of e)
-        → ((status_of e ≡ 6) ↔ IsRefused domain) × ((status_of e ≡ 8) ↔ IsTooLong domain)
-    text_verdict (Err BadWords) ends verdict = absurd ends
-    text_verdict (Err ReadFailed) ends verdict = absurd (verdict.no_read_fault refl)
-    text_verdict (Err NoMemory) ends verdict = absurd (verdict.enough_memory refl)
-    text_verdict (Err (Refused code file line)) (d, holds, at) verdict =
-        let refused : IsRefused domain = subst IsRefused (told_held _ domain d told holds) at.refused in
-        (yes 6 (IsRefused domain) refused, no 6 8 (IsTooLong domain) (λ is. omega (arith, is)) (not_refused_and_long domain refused))
-    text_verdict (Err (Limit code most)) (d, holds, above) verdict =
-        let long : IsTooLong domain = subst IsTooLong (told_held _ domain d told holds) above.too_long in
-        (no 8 6 (IsRefused domain) (λ is. omega (arith, is)) (λ refused. not_refused_and_long domain refused long), yes 8 (IsTooLong domain) long)
-    text_verdict (Err (NotAccepted code row)) (d, f, holds, also, at) verdict =
-        let rejected : IsRejected domain f = subst (λ text. IsRejected text f) (told_held _ domain d told holds) at.rejected in (
-          no 7 6 (IsRefused domain) (λ is. omega (arith, is)) (not_rejected_and_refused domain f rejected),
-          no 7 8 (IsTooLong domain) (λ is. omega (arith, is)) (not_rejected_and_long domain f rejected),
-        )
-    text_verdict (Ok report) ends verdict =
-        let text = text_at ends.task ends.may_hold in (
-          no 0 6 (IsRefused domain) (λ is. omega (arith, is)) (not_task_and_refused domain _ _ text),
-          no 0 8 (IsTooLong domain) (λ is. omega (arith, is)) (not_task_and_long domain _ _ text),
-        )
-
-    module _ (f : List ℕ) (also_told : held old q.certificate ≡ Holds f) where
-      decoded_at : (g : List ℕ) (c : Content) → MayHold (held old q.certificate) g → IsDecoded g c → IsDecoded f c
-      decoded_at g c holds decoded = subst (λ bytes. IsDecoded bytes c) (told_held _ f g also_told holds) decoded
-
-      -- what the status says of the certificate's bytes
-      certificate_verdict : (e : Result (List ℕ) Stop) → MayEndRequest held reads old new q e → HasVerdict (status_of e)
-          → ((status_of e ≡ 0) ↔ IsAccepted domain f) × ((status_of e ≡ 7) ↔ IsRejected domain f)
-      certificate_verdict (Err BadWords) ends verdict = absurd ends
-      certificate_verdict (Err ReadFailed) ends verdict = absurd (verdict.no_read_fault refl)
-      certificate_verdict (Err NoMemory) ends verdict = absurd (verdict.enough_memory refl)
-      certificate_verdict (Err (Refused code file line)) (d, holds, at) verdict =
-          let refused : IsRefused domain = subst IsRefused (told_held _ domain d told holds) at.refused in (
-            no 6 0 (IsAccepted domain f) (λ is. omega (arith, is)) (λ accepted. not_accepted_and_refused domain f accepted refused),
-            no 6 7 (IsRejected domain f) (λ is. omega (arith, is)) (λ rejected. not_rejected_and_refused domain f rejected refused),
-          )
-      certificate_verdict (Err (Limit code most)) (d, holds, above) verdict =
-          let long : IsTooLong domain = subst IsTooLong (told_held _ domain d told holds) above.too_long in (
-            no 8 0 (IsAccepted domain f) (λ is. omega (arith, is)) (λ accepted. not_accepted_and_long domain f accepted long),
-            no 8 7 (IsRejected domain f) (λ is. omega (arith, is)) (λ rejected. not_rejected_and_long domain f rejected long),
-          )
-      certificate_verdict (Err (NotAccepted code row)) (d, g, holds, also, at) verdict =
-          let there : IsRejected domain g = subst (λ text. IsRejected text g) (told_held _ domain d told holds) at.rejected in
-          let rejected : IsRejected domain f = subst (λ bytes. IsRejected domain bytes) (told_held _ f g also_told also) there in (
-            no 7 0 (IsAccepted domain f) (λ is. omega (arith, is)) (λ accepted. not_accepted_and_rejected domain f accepted rejected),
-            yes 7 (IsRejected domain f) rejected,
-          )
-      certificate_verdict (Ok report) ends verdict =
-          let text = text_at ends.task ends.may_hold in
-          let accepted : IsAccepted domain f =
-          (ends.task, ends.may_hold.charges, ends.c, text, decoded_at ends.f ends.c ends.certificate_held ends.decoded, ends.balanced) in
-          (yes 0 (IsAccepted domain f) accepted, no 0 7 (IsRejected domain f) (λ is. omega (arith, is)) (not_accepted_and_rejected domain f accepted))
-
-      -- the report of a certificate that was accepted
-      report_at : (e : Result (List ℕ) Stop) (before now : Option (List ℕ)) → MayEndRequest held reads old new q e → status_of e ≡ 0
-          → Appends before now (text_of e) → PutsReport domain f before now
-      report_at (Ok report) before now ends is put = record {
-        task = ends.task;
-        charges = ends.may_hold.charges;
-        c = ends.c;
-        text_of_task = text_at ends.task ends.may_hold;
-        decoded = decoded_at ends.f ends.c ends.certificate_held ends.decoded;
-        balanced = ends.balanced;
-        encloses = balanced_encloses_for ends.task ends.may_hold.charges ends.c (start_den_positive ends.task ends.shape) ends.balanced;
-        text = subst (Appends before now) ends.text put;
-      }
-      report_at (Err BadWords) before now ends is put = absurd ends
-      report_at (Err _) before now ends is put = absurd (omega (arith, is))
-
--- ---- how the words may end
+-- ---- endings of requests
 
 module _ {S : Type 0} (held : S → List ℕ → Told) (reads : S → ℕ) (old new : S) where
-  bad_words_for : (request : Option Asked) (e : Result (List ℕ) Stop) → MayEnd held reads old new request e → (status_of e ≡ 2) ↔ (request ≡ None)
-  bad_words_for None e ends = ((λ two. refl), (λ none. ap status_of ends))
-  bad_words_for (Some q) e ends = ((λ two. absurd (asked_for held reads old new q e ends two)), (λ none. absurd (cc none)))
+  -- a request that has a verdict was answered by what the shelf held
+  answered_so : (q : Asked) (e : Ending) → MayEndRequest held reads old new q e → HasVerdict (ending_status e) → Answers (held old) q e
+  answered_so q (Ok report) ends verdict = ends
+  answered_so q (Err BadWords) ends verdict = ends
+  answered_so q (Err (Refused code file line)) ends verdict = ends
+  answered_so q (Err (NotAccepted code row)) ends verdict = ends
+  answered_so q (Err (Limit code most)) ends verdict = ends
+  answered_so q (Err ReadFailed) ends verdict = absurd (verdict.no_read_fault refl)
+  answered_so q (Err NoMemory) ends verdict = absurd (verdict.enough_memory refl)
 
-  read_failed_for : (request : Option Asked) (e : Result (List ℕ) Stop) → MayEnd held reads old new request e → status_of e ≡ 3
-      → Rose (reads old) (reads new) ⊎ ((q : Asked) × (request ≡ Some q) × IsMissing (held old) q)
-  read_failed_for None e ends three = absurd (omega (arith, three, ap status_of ends))
-  read_failed_for (Some q) e ends three = elim (not_read held reads old new q e ends three) [ inl rose ↦ inl rose | inr missing ↦ inr (q, refl, missing) ]
+  not_words : TextsStopSo → (q : Asked) (e : Ending) → MayEndRequest held reads old new q e → ending_status e ≢ 2
+  not_words stops q (Err BadWords) ends is = answers_words (held old) stops q (Err BadWords) ends refl
+  not_words stops q (Ok report) ends is = omega (arith, is)
+  not_words stops q (Err ReadFailed) ends is = omega (arith, is)
+  not_words stops q (Err _) ends is = omega (arith, is)
+
+  bad_words_for : TextsStopSo → (asked : Option Asked) (e : Ending) → MayEndWords held reads old new asked e → ending_status e ≢ 5
+      → (ending_status e ≡ 2) ↔ (asked ≡ None)
+  bad_words_for stops None e (inl bad) enough = ((λ two. refl), (λ none. ap ending_status bad))
+  bad_words_for stops None e (inr memory) enough = absurd (enough (ap ending_status memory))
+  bad_words_for stops (Some q) e ends enough = ((λ two. absurd (not_words stops q e ends two)), (λ none. absurd (cc none)))
+
+  read_failed_so : (q : Asked) (e : Ending) → MayEndRequest held reads old new q e → ending_status e ≡ 3
+      → Lacks (held old) q ⊎ Rose (reads old) (reads new)
+  read_failed_so q (Err ReadFailed) ends is = ends
+  read_failed_so q (Ok report) ends is = absurd (omega (arith, is))
+  read_failed_so q (Err _) ends is = absurd (omega (arith, is))
+
+  read_failed_for : (asked : Option Asked) (e : Ending) → MayEndWords held reads old new asked e → ending_status e ≡ 3
+      → ((q : Asked) × (asked ≡ Some q) × Lacks (held old) q) ⊎ Rose (reads old) (reads new)
+  read_failed_for None e (inl bad) three = absurd (omega (arith, three, ap ending_status bad))
+  read_failed_for None e (inr memory) three = absurd (omega (arith, three, ap ending_status memory))
+  read_failed_for (Some q) e ends three =
+      elim (read_failed_so q e ends three) [ inl lacks ↦ inl (q, refl, lacks) | inr rose ↦ inr rose ]
+
+  -- a request whose reads went well has an answer
+  answer_for : TextsStopSo → (q : Asked) (e : Ending) → MayEndRequest held reads old new q e → (Lacks (held old) q → ⊥)
+      → (Rose (reads old) (reads new) → ⊥) → IsAnswer (ending_status e)
+  answer_for stops q (Ok report) ends lacks rose = (0, omega arith, refl)
+  answer_for stops q (Err NoMemory) ends lacks rose = (1, omega arith, refl)
+  answer_for stops q (Err (Refused code file line)) ends lacks rose = (2, omega arith, refl)
+  answer_for stops q (Err (NotAccepted code row)) ends lacks rose = (3, omega arith, refl)
+  answer_for stops q (Err (Limit code most)) ends lacks rose = (4, omega arith, refl)
+  answer_for stops q (Err BadWords) ends lacks rose = absurd (answers_words (held old) stops q (Err BadWords) ends refl)
+  answer_for stops q (Err ReadFailed) (inl missing) lacks rose = absurd (lacks missing)
+  answer_for stops q (Err ReadFailed) (inr rises) lacks rose = absurd (rose rises)
 
   -- what is said in place of an ending may be said
-  pub said_may_end : (request : Option Asked) (e said : Result (List ℕ) Stop) → MayEnd held reads old new request e → IsSaid e said → MayEnd held reads old new request said
-  said_may_end request e said ends (inl same) = subst (MayEnd held reads old new request) (sym same) ends
-  said_may_end None e said ends (inr none) = absurd (none.1 ends)
-  said_may_end (Some q) e said ends (inr none) = subst (MayEndRequest held reads old new q) (sym none.0) tt
+  memory_may_end : (asked : Option Asked) → MayEndWords held reads old new asked (Err NoMemory)
+  memory_may_end None = inr refl
+  memory_may_end (Some q) = tt
 
--- ---- the clauses of the top call
+  said_may_end : (asked : Option Asked) (e said : Ending) → MayEndWords held reads old new asked e → IsSaid e said
+      → MayEndWords held reads old new asked said
+  said_may_end asked e said ends (inl same) = subst (MayEndWords held reads old new asked) (sym same) ends
+  said_may_end asked e said ends (inr none) = subst (MayEndWords held reads old new asked) (sym none) (memory_may_end asked)
 
--- from how the words may end, and what was put
-module _ {S : Type 0} (held : S → List ℕ → Told) (reads : S → ℕ) (words : List (Bor (List ℕ))) (old new : S) (e : Result (List ℕ) Stop)
-    (may_end : MayEnd held reads old new (request_by words) e) where
-  pub ended : (status : ℕ) (before now : Option (List ℕ)) (says : SaysPut e status before now) → MayEndAs held reads words old new status (text_of says.said)
+-- ---- from what was put
+
+module _ {S : Type 0} (held : S → List ℕ → Told) (reads : S → ℕ) (words : List (Bor (List ℕ))) (old new : S) (e : Ending)
+    (may_end : MayEndWords held reads old new (asked_by words) e) where
+  pub ended : (status : ℕ) (before now : Option (List ℕ)) (says : SaysPut e status before now)
+      → MayEndAs held reads words old new status (ending_text says.said)
   ended status before now says = record {
     ending = says.said;
-    may_end = said_may_end held reads old new (request_by words) e says.said may_end says.is_said;
+    may_end = said_may_end held reads old new (asked_by words) e says.said may_end says.is_said;
     status_is = says.status_is;
     text_is = refl;
   }
@@ -196,57 +101,111 @@ module _ {S : Type 0} (held : S → List ℕ → Told) (reads : S → ℕ) (word
   pub cut : (before now : Option (List ℕ)) (says : SaysCutShort e before now)
       → (status : ℕ) × (text : List ℕ) × MayEndAs held reads words old new status text × PutsPrefix before now text
   cut before now says = (
-    status_of says.said,
-    text_of says.said,
+    ending_status says.said,
+    ending_text says.said,
     record {
       ending = says.said;
-      may_end = said_may_end held reads old new (request_by words) e says.said may_end says.is_said;
+      may_end = said_may_end held reads old new (asked_by words) e says.said may_end says.is_said;
       status_is = refl;
       text_is = refl;
     },
     says.put,
   )
 
+-- ---- the clauses of the top call
+
 module _ {S : Type 0} {held : S → List ℕ → Told} {reads : S → ℕ} {words : List (Bor (List ℕ))} {old new : S} {status : ℕ} {text : List ℕ}
     (ends : MayEndAs held reads words old new status text) where
-  request_ends : (q : Asked) → request_by words ≡ Some q → MayEndRequest held reads old new q ends.ending
-  request_ends q asks = subst (λ request. MayEnd held reads old new request ends.ending) asks ends.may_end
+  request_ends : (q : Asked) → Asks words q → MayEndRequest held reads old new q ends.ending
+  request_ends q asks = subst (λ asked. MayEndWords held reads old new asked ends.ending) asks ends.may_end
 
-  verdict_of : HasVerdict status → HasVerdict (status_of ends.ending)
+  verdict_of : HasVerdict status → HasVerdict (ending_status ends.ending)
   verdict_of verdict = subst HasVerdict ends.status_is verdict
 
+  answers_of : (q : Asked) → Asks words q → HasVerdict status → Answers (held old) q ends.ending
+  answers_of q asks verdict = answered_so held reads old new q ends.ending (request_ends q asks) (verdict_of verdict)
+
   -- what is exactly so of the status of the ending is so of the status
-  exactly : (n : ℕ) (P : Type 0) → (status_of ends.ending ≡ n) ↔ P → (status ≡ n) ↔ P
-  exactly n P is = subst (λ s. (s ≡ n) ↔ P) (sym ends.status_is) is
+  exactly : (n : ℕ) (P : Type 0) → (ending_status ends.ending ≡ n) ↔ P → (status ≡ n) ↔ P
+  exactly n P is = subst (λ m. (m ≡ n) ↔ P) (sym ends.status_is) is
 
-  pub bad_words_exactly : (status ≡ 2) ↔ (request_by words ≡ None)
-  bad_words_exactly = exactly 2 (request_by words ≡ None) (bad_words_for held reads old new (request_by words) ends.ending ends.may_end)
+  pub bad_words_exactly : TextsStopSo → status ≢ 5 → (status ≡ 2) ↔ AsksNothing words
+  bad_words_exactly stops enough =
+      exactly 2 (AsksNothing words)
+      (bad_words_for held reads old new stops (asked_by words) ends.ending ends.may_end (subst (λ m. m ≢ 5) ends.status_is enough))
 
-  module _ (q : Asked) (domain : List ℕ) (asks : request_by words ≡ Some q) (told : held old q.domain ≡ Holds domain) (verdict : HasVerdict status) where
-    pub refused_exactly : (status ≡ 6) ↔ IsRefused domain
-    refused_exactly = exactly 6 (IsRefused domain) (text_verdict held reads old new q domain told ends.ending (request_ends q asks) (verdict_of verdict)).0
+  pub read_failed_only : status ≡ 3 → ((q : Asked) × Asks words q × Lacks (held old) q) ⊎ Rose (reads old) (reads new)
+  read_failed_only three = read_failed_for held reads old new (asked_by words) ends.ending ends.may_end (sym ends.status_is ∙ three)
 
-    pub too_long_exactly : (status ≡ 8) ↔ IsTooLong domain
-    too_long_exactly = exactly 8 (IsTooLong domain) (text_verdict held reads old new q domain told ends.ending (request_ends q asks) (verdict_of verdict)).1
+  pub answered : TextsStopSo → (q : Asked) → Asks words q → (Lacks (held old) q → ⊥) → (Rose (reads old) (reads new) → ⊥) → IsAnswer status
+  answered stops q asks lacks rose =
+      subst IsAnswer (sym ends.status_is) (answer_for held reads old new stops q ends.ending (request_ends q asks) lacks rose)
 
-  module _ (q : Asked) (domain f : List ℕ) (told : IsTold words (held old) q domain f) where
-    pub accepted_exactly : HasVerdict status → (status ≡ 0) ↔ IsAccepted domain f
-    accepted_exactly verdict =
-        exactly 0 (IsAccepted domain f)
-        (certificate_verdict held reads old new q domain told.domain_told f told.certificate_told ends.ending (request_ends q told.request) (verdict_of verdict)).0
+  zero_is_a_verdict : status ≡ 0 → HasVerdict status
+  zero_is_a_verdict zero = record {
+    no_read_fault = λ is. omega (arith, is, zero);
+    no_write_fault = λ is. omega (arith, is, zero);
+    enough_memory = λ is. omega (arith, is, zero);
+  }
 
-    pub rejected_exactly : HasVerdict status → (status ≡ 7) ↔ IsRejected domain f
-    rejected_exactly verdict =
-        exactly 7 (IsRejected domain f)
-        (certificate_verdict held reads old new q domain told.domain_told f told.certificate_told ends.ending (request_ends q told.request) (verdict_of verdict)).1
+  module _ (told : OneProblemIsTold) (stops : TextsStopSo) (s : Sources) (t : Texts) where
+    module _ (tells : TellsTexts words (held old) s t) (verdict : HasVerdict status) where
+      pub refused_exactly : (status ≡ 6) ↔ IsRefused s t
+      refused_exactly =
+          exactly 6 (IsRefused s t)
+          (text_verdict (held old) told stops s t tells.texts tells.request tells.sources ends.ending (answers_of tells.request tells.asks verdict)).0
 
-    pub reported : (before now : Option (List ℕ)) → status ≡ 0 → Appends before now text → PutsReport domain f before now
-    reported before now zero put =
-        report_at held reads old new q domain told.domain_told f told.certificate_told ends.ending before now (request_ends q told.request)
-        (sym ends.status_is ∙ zero) (subst (Appends before now) ends.text_is put)
+      pub limited_exactly : (status ≡ 8) ↔ IsLimited s t
+      limited_exactly =
+          exactly 8 (IsLimited s t)
+          (text_verdict (held old) told stops s t tells.texts tells.request tells.sources ends.ending (answers_of tells.request tells.asks verdict)).1
 
-  pub read_failed_only : status ≡ 3 → Rose (reads old) (reads new) ⊎ ((q : Asked) × (request_by words ≡ Some q) × IsMissing (held old) q)
-  read_failed_only three = read_failed_for held reads old new (request_by words) ends.ending ends.may_end (sym ends.status_is ∙ three)
+    pub grounded_exactly : TellsGround words (held old) s t → HasVerdict status → (status ≡ 0) ↔ IsGrounded s t
+    grounded_exactly tells verdict =
+        exactly 0 (IsGrounded s t)
+        (ground_verdict (held old) told stops s t tells.texts ends.ending (answers_of (to_ground s) tells.asks verdict))
 
-  pub answered : (q : Asked) → request_by words ≡ Some q → (Rose (reads old) (reads new) → ⊥) → (IsMissing (held old) q → ⊥) → IsAnswer status
-  answered q asks rose missing = subst IsAnswer (sym ends.status_is) (answer held reads old new q ends.ending (request_ends q asks) rose missing)
+    pub problem_put : ProblemStands → AreTerms s → TellsGround words (held old) s t → (before now : Option (List ℕ)) → status ≡ 0
+        → Appends before now text → PutsProblem s t before now
+    problem_put stands are tells before now zero put =
+        let found = ground_reported (held old) told stops s t tells.texts ends.ending
+        (answers_of (to_ground s) tells.asks (zero_is_a_verdict zero)) (sym ends.status_is ∙ zero) in
+        record {
+          g = found.0;
+          problem = found.1;
+          of_task = stands s t found.0 are found.1;
+          put = subst (Appends before now) (ends.text_is ∙ ap ending_text found.2) put;
+        }
+
+    module _ (law : TextsAreRead) (balance : AcceptedIsBalanced) (f : List ℕ) (tells : TellsCheck words (held old) s t f) where
+      pub accepted_exactly : HasVerdict status → (status ≡ 0) ↔ IsAccepted s t f
+      accepted_exactly verdict =
+          exactly 0 (IsAccepted s t f)
+          (check_verdict (held old) told stops s t tells.texts law balance f tells.name tells.certificate ends.ending
+          (answers_of (to_check s tells.name) tells.asks verdict) (verdict_of verdict)).0
+
+      pub rejected_exactly : HasVerdict status → (status ≡ 7) ↔ IsRejected s t f
+      rejected_exactly verdict =
+          exactly 7 (IsRejected s t f)
+          (check_verdict (held old) told stops s t tells.texts law balance f tells.name tells.certificate ends.ending
+          (answers_of (to_check s tells.name) tells.asks verdict) (verdict_of verdict)).1
+
+      -- the report that was put, and what the certificate says of the task
+      pub report_put : ProblemStands → AreTerms s → BalanceIsCarried → TaskIsEnclosed → TaskPolicyEnds → ((task : Task) → WellFormedSums task)
+          → (before now : Option (List ℕ)) → status ≡ 0 → Appends before now text → PutsReport s t f before now
+      report_put stands are carried enclosed ending sums before now zero put =
+          let found = check_reported (held old) told stops s t tells.texts law balance f tells.name tells.certificate ends.ending
+          (answers_of (to_check s tells.name) tells.asks (zero_is_a_verdict zero)) (sym ends.status_is ∙ zero) in
+          let of_task = stands s t found.0 are found.2 in
+          record {
+            g = found.0;
+            c = found.1;
+            problem = found.2;
+            decoded = found.3;
+            balanced_for = found.4;
+            put = subst (Appends before now) (ends.text_is ∙ ap ending_text found.5) put;
+            of_task = of_task;
+            balanced = (carried found.0 of_task.task of_task.charges of_task.stands found.1).0 found.4.balanced;
+            encloses = enclosed found.0 of_task.task of_task.charges of_task.stands found.1 found.4;
+            ends = ending found.0 of_task.task of_task.charges of_task.stands (sums of_task.task of_task.well_formed) found.1 found.4;
+          }

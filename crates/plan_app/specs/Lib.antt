@@ -1,12 +1,5 @@
-pub mod Balanced
-pub mod Request
-pub mod Texts
-pub mod Stop
-pub mod Inputs
-pub mod Ending
-pub mod Parts
-pub mod Bits
-pub mod PackedTask
-pub mod RowTable
-pub mod Laws
+pub mod Asking
+pub mod Endings
+pub mod Verdicts
+pub mod Putting
 pub mod Examples

@@ -1,31 +1,38 @@
 //! The top call: all that the program does.
 
-ghost use Rattle.std.specs.Prelude.{◌≡◌, ◌≢◌, ◌≤◌, ◌+◌, ◌⊎◌, ◌↔◌, ℕ, List};
+ghost use Rattle.std.specs.Prelude.{◌≡◌, ◌≢◌, ◌⊎◌, ◌↔◌, ℕ, List};
 ghost use Rattle.std.specs.Io.KnownBytes.{Appends};
-ghost use Rattle.shelf_io.specs.Causes.{one_more, Rose};
-ghost use Rattle.shelf_io.specs.Shelf.{Holds};
+ghost use Rattle.shelf_io.specs.Causes.{Rose};
 ghost use Rattle.shelf_io.specs.Streams.{PutsPrefix};
-ghost use Rattle.plan_app.specs.declared.status.TheConstants.{ACCEPTED, BAD_WORDS, READ_FAILED};
-ghost use Rattle.plan_app.specs.declared.status.TheConstants.{WRITE_FAILED, NO_MEMORY, REFUSED};
-ghost use Rattle.plan_app.specs.declared.status.TheConstants.{NOT_ACCEPTED, LIMIT};
-ghost use Rattle.plan_app.specs.Request.{Asked, Asks, AsksNothing};
-ghost use Rattle.plan_app.specs.Inputs.{IsTooLong, IsRefused, IsAccepted, IsRejected};
-ghost use Rattle.plan_app.specs.Ending.{MayHoldThin, MayEndAs, HasVerdict, IsMissing, IsAnswer};
-ghost use Rattle.plan_app.specs.Ending.{IsTold, PutsReport, OnlyRead};
-ghost use Rattle.plan_app.specs.Parts.{SaysPut, SaysCutShort};
+ghost use Rattle.plan_stop.specs.declared.status.TheConstants.{DONE, BAD_WORDS, READ_FAILED};
+ghost use Rattle.plan_stop.specs.declared.status.TheConstants.{WRITE_FAILED, NO_MEMORY, REFUSED};
+ghost use Rattle.plan_stop.specs.declared.status.TheConstants.{NOT_ACCEPTED, LIMIT};
+ghost use Rattle.plan_request.specs.Asked.{Asked, Sources};
+ghost use Rattle.plan_sources.specs.declared.texts.Texts.{Texts};
+ghost use Rattle.plan_sources.specs.Endings.{OnlyRead};
+ghost use Rattle.plan_app.specs.Asking.{asked_by, Asks, AsksNothing};
+ghost use Rattle.plan_app.specs.Endings.{Lacks, MayEndAs, CallsForWords};
+ghost use Rattle.plan_app.specs.Verdicts.{TellsTexts, TellsGround, TellsCheck, HasVerdict};
+ghost use Rattle.plan_app.specs.Verdicts.{IsRefused, IsLimited, IsGrounded, IsAccepted, IsRejected};
+ghost use Rattle.plan_app.specs.Verdicts.{IsAnswer, PutsProblem, PutsReport};
+ghost use Rattle.plan_app.specs.Putting.{SaysPut, SaysCutShort};
 
-use crate::check::report_of;
-use crate::status::{ACCEPTED, NO_MEMORY, WRITE_FAILED};
-use crate::stop::Stop;
+use crate::commands::report_of;
+use certificate::text_laws;
+use certificate_check::check_laws;
 use plain_list::Bytes;
+use plan_request::request_laws;
+use plan_sources::source_laws;
+use plan_stop::{DONE, NO_MEMORY, Stop, WRITE_FAILED};
+use ppddl_model::task_laws;
 use shelf_io::{Gate, Shelf, Sink, Source, put_all};
 use std::alloc::Global;
 use std::thread::Threads;
+use task_certificates::task_certificate_laws;
 
 /// Runs the program with the words behind its name, and answers its status.
 ///
-/// The one command of today is `check DOMAIN --cert F`. It changes nothing on the shelf and leaves
-/// the input alone.
+/// `check` and `ground` change nothing on the shelf and leave the input alone.
 pub fn run<R: Threads + Sync, S: Shelf, I: Source + Send, O: Sink + Send, G: Gate>(
     rt: &R,
     alloc: Global,
@@ -35,40 +42,7 @@ pub fn run<R: Threads + Sync, S: Shelf, I: Source + Send, O: Sink + Send, G: Gat
     out: &mut O,
     gate: &G,
 ) -> u8
-    // Where the status is none of 3, 4 and 5, it is exactly what the words and the bytes say.
-    ensures bad_words { result ≢ WRITE_FAILED → (result ≡ BAD_WORDS) ↔ AsksNothing words.now }
-    ensures too_long { (q : Asked) (domain : List ℕ) → Asks words.now q
-        → S.held shelf.old q.domain ≡ Holds domain
-        → HasVerdict result → (result ≡ LIMIT) ↔ IsTooLong domain }
-    ensures refused { (q : Asked) (domain : List ℕ) → Asks words.now q
-        → S.held shelf.old q.domain ≡ Holds domain
-        → HasVerdict result → (result ≡ REFUSED) ↔ IsRefused domain }
-    ensures accepted { (q : Asked) (domain f : List ℕ)
-        → IsTold words.now (S.held shelf.old) q domain f
-        → HasVerdict result → (result ≡ ACCEPTED) ↔ IsAccepted domain f }
-    ensures rejected { (q : Asked) (domain f : List ℕ)
-        → IsTold words.now (S.held shelf.old) q domain f
-        → HasVerdict result → (result ≡ NOT_ACCEPTED) ↔ IsRejected domain f }
-
-    // The certificate that was accepted encloses, and its report was put.
-    ensures encloses { (q : Asked) (domain f : List ℕ)
-        → IsTold words.now (S.held shelf.old) q domain f
-        → result ≡ ACCEPTED → PutsReport domain f (O.taken out.old) (O.taken out.new) }
-
-    // When 3 and 4 come. Want of memory, 5, is free.
-    ensures read_failed { result ≡ READ_FAILED
-        → Rose (S.read_faults shelf.old) (S.read_faults shelf.new)
-        ⊎ ((q : Asked) × Asks words.now q × IsMissing (S.held shelf.old) q) }
-    ensures write_failed { result ≡ WRITE_FAILED → Rose (O.faults out.old) (O.faults out.new) }
-
-    // A request has an answer where no fault came and no name is missing.
-    ensures answered { (q : Asked) → Asks words.now q
-        → ¬ Rose (S.read_faults shelf.old) (S.read_faults shelf.new)
-        → ¬ Rose (O.faults out.old) (O.faults out.new)
-        → ¬ IsMissing (S.held shelf.old) q → IsAnswer result }
-    ensures memory { result ≡ NO_MEMORY → O.taken out.new ≡ O.taken out.old }
-
-    // What is put: the whole text of the ending, or after 4 a first part of it.
+    // How a run ends: the whole text of its ending is put, or after 4 a first part of it.
     ensures ends { result ≢ WRITE_FAILED → (text : List ℕ)
         × MayEndAs S.held S.read_faults words.now shelf.old shelf.new result text
         × Appends (O.taken out.old) (O.taken out.new) text }
@@ -76,15 +50,56 @@ pub fn run<R: Threads + Sync, S: Shelf, I: Source + Send, O: Sink + Send, G: Gat
         × MayEndAs S.held S.read_faults words.now shelf.old shelf.new status text
         × PutsPrefix (O.taken out.old) (O.taken out.new) text }
 
-    // How often the shelf is asked: for the certificate only behind a text that is read.
-    ensures no_call { AsksNothing words.now → S.calls shelf.new ≡ S.calls shelf.old }
-    ensures one_call { (q : Asked) → Asks words.now q → ¬ MayHoldThin (S.held shelf.old q.domain)
-        → S.calls shelf.new ≡ one_more (S.calls shelf.old) }
-    ensures two_calls { S.calls shelf.new ≤ S.calls shelf.old + 2 }
+    // Where the status is none of 3, 4 and 5, it is exactly what the words and the bytes say.
+    ensures bad_words { result ≢ WRITE_FAILED → result ≢ NO_MEMORY
+        → (result ≡ BAD_WORDS) ↔ AsksNothing words.now }
+    ensures refused { (s : Sources) (t : Texts) → TellsTexts words.now (S.held shelf.old) s t
+        → HasVerdict result → (result ≡ REFUSED) ↔ IsRefused s t }
+    ensures limited { (s : Sources) (t : Texts) → TellsTexts words.now (S.held shelf.old) s t
+        → HasVerdict result → (result ≡ LIMIT) ↔ IsLimited s t }
+    ensures grounded { (s : Sources) (t : Texts) → TellsGround words.now (S.held shelf.old) s t
+        → HasVerdict result → (result ≡ DONE) ↔ IsGrounded s t }
+    ensures accepted { (s : Sources) (t : Texts) (f : List ℕ)
+        → TellsCheck words.now (S.held shelf.old) s t f
+        → HasVerdict result → (result ≡ DONE) ↔ IsAccepted s t f }
+    ensures rejected { (s : Sources) (t : Texts) (f : List ℕ)
+        → TellsCheck words.now (S.held shelf.old) s t f
+        → HasVerdict result → (result ≡ NOT_ACCEPTED) ↔ IsRejected s t f }
 
+    // The problem that was printed stands for the task of the texts.
+    ensures stands { (s : Sources) (t : Texts) → TellsGround words.now (S.held shelf.old) s t
+        → result ≡ DONE → PutsProblem s t (O.taken out.old) (O.taken out.new) }
+
+    // The certificate that was accepted encloses the cost of the task, and its policy ends.
+    ensures encloses { (s : Sources) (t : Texts) (f : List ℕ)
+        → TellsCheck words.now (S.held shelf.old) s t f
+        → result ≡ DONE → PutsReport s t f (O.taken out.old) (O.taken out.new) }
+
+    // When 3 and 4 come. Want of memory, 5, is free, and puts nothing.
+    ensures read_failed { result ≡ READ_FAILED
+        → ((q : Asked) × Asks words.now q × Lacks (S.held shelf.old) q)
+        ⊎ Rose (S.read_faults shelf.old) (S.read_faults shelf.new) }
+    ensures write_failed { result ≡ WRITE_FAILED → Rose (O.faults out.old) (O.faults out.new) }
+    ensures memory { result ≡ NO_MEMORY → O.taken out.new ≡ O.taken out.old }
+
+    // A request has an answer where no fault came and no name is missing.
+    ensures answered { (q : Asked) → Asks words.now q
+        → ¬ Lacks (S.held shelf.old) q
+        → ¬ Rose (S.read_faults shelf.old) (S.read_faults shelf.new)
+        → ¬ Rose (O.faults out.old) (O.faults out.new) → IsAnswer result }
+
+    // How often the shelf is asked, and what stays.
+    ensures calls { CallsForWords S.held S.calls shelf.old shelf.new (asked_by words.now) }
     ensures shelf { OnlyRead S.held S.read_faults S.write_faults shelf.old shelf.new }
     ensures source { input.new ≡ input.old }
 {
+    // The laws on which the clauses rest.
+    request_laws();
+    source_laws();
+    text_laws();
+    check_laws();
+    task_laws();
+    task_certificate_laws();
     let ending = report_of(alloc, words, shelf);
     put_ending(alloc, out, ending)
 }
@@ -99,7 +114,7 @@ fn put_ending<O: Sink>(alloc: Global, out: &mut O, ending: Result<Bytes, Stop>) 
     ensures write_failed { result ≡ WRITE_FAILED → Rose (O.faults out.old) (O.faults out.new) }
 {
     match ending {
-        Ok(report) => put(out, report.as_slice(), ACCEPTED),
+        Ok(report) => put(out, report.as_slice(), DONE),
         Err(stop) => match stop.line(alloc) {
             Ok(line) => put(out, line.as_str().as_bytes(), stop.status()),
             Err(_) => NO_MEMORY,

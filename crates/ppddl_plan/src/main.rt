@@ -2,13 +2,15 @@
 //! answer.
 #![tactic(auto)]
 
-ghost use Rattle.std.specs.Prelude.{◌≡◌, ◌≢◌, ◌≤◌, ◌+◌, ◌↔◌, map, None, IfOk, string_bytes};
+ghost use Rattle.std.specs.Prelude.{◌≡◌, ◌≢◌, ◌↔◌, map, None, IfOk, string_bytes};
 ghost use Rattle.shelf_io.specs.Causes.{Rose};
-ghost use Rattle.plan_app.specs.declared.status.TheConstants.{BAD_WORDS, WRITE_FAILED, NO_MEMORY};
-ghost use Rattle.plan_app.specs.Request.{request_of};
-ghost use Rattle.plan_app.specs.Ending.{OnlyRead};
+ghost use Rattle.plan_stop.specs.declared.status.TheConstants.{BAD_WORDS, WRITE_FAILED};
+ghost use Rattle.plan_stop.specs.declared.status.TheConstants.{NO_MEMORY};
+ghost use Rattle.plan_sources.specs.Endings.{OnlyRead};
+ghost use Rattle.plan_app.specs.Asking.{asked_of};
 
-use plan_app::{NO_MEMORY, run};
+use plan_app::run;
+use plan_stop::NO_MEMORY;
 use shelf_io::{FolderShelf, FreeGate, InputSource, OutputSink, Shelf, Sink, Source};
 use std::alloc::{AllocError, Global};
 use std::env;
@@ -54,10 +56,9 @@ fn run_with<R: Threads + Sync, S: Shelf, I: Source + Send, O: Sink + Send>(
     out: &mut O,
 ) -> u8
     ensures bad_words { result ≢ WRITE_FAILED → result ≢ NO_MEMORY
-        → (result ≡ BAD_WORDS) ↔ (request_of (map string_bytes words.now) ≡ None) }
+        → (result ≡ BAD_WORDS) ↔ (asked_of (map string_bytes words.now) ≡ None) }
     ensures write_failed { result ≡ WRITE_FAILED → Rose (O.faults out.old) (O.faults out.new) }
     ensures memory { result ≡ NO_MEMORY → O.taken out.new ≡ O.taken out.old }
-    ensures two_calls { S.calls shelf.new ≤ S.calls shelf.old + 2 }
     ensures shelf { OnlyRead S.held S.read_faults S.write_faults shelf.old shelf.new }
     ensures source { input.new ≡ input.old }
 {

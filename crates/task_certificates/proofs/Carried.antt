@@ -14,13 +14,17 @@ use Rattle.certificate.specs.declared.act.Act as cert
 use Rattle.certificate.specs.declared.act.Act.TheVariants as acts
 use Rattle.certificate.specs.Rows as rows
 use Rattle.certificate.specs.Content.{Content}
-use Rattle.decision_process.specs.Readings.{Row}
+use Rattle.decision_process.specs.Readings.{Row, low, high, act}
 use Rattle.decision_process.proofs.Readings.{certificate_encloses}
+use Rattle.decision_process.proofs.Ending.{policy_ends}
 use Rattle.process_homomorphism.specs.Counterparts.{IsRowActOf, IsRowOf}
 use Rattle.ppddl_model.specs.declared.tree.Task.{Task}
 use Rattle.ppddl_model.specs.State.{same_state}
 use Rattle.ppddl_model.specs.Changing.{kept_instances}
-use Rattle.ppddl_model.specs.Steps.{Instance, Charges, starts, start_den, process}
+use Rattle.ppddl_model.specs.Steps.{Instance, Charges, starts, start_den, least_step_cost, process}
+use Rattle.ppddl_model.proofs.Weights.{weight_of-step}
+use Rattle.ppddl_model.proofs.Costs.{steps_cost}
+use Rattle.ppddl_model.proofs.Shares.{chances_are_proper}
 use Rattle.ground_model.specs.declared.action.GroundAction.{GroundAction}
 use Rattle.ground_model.specs.Packed as packed
 use Rattle.ground_model.specs.Choices.{is_member}
@@ -33,7 +37,7 @@ use Rattle.ground_stands.proofs.Same.{same_certificate}
 use Rattle.ground_stands.proofs.Standing.{starts_are_carried}
 use Rattle.certificate_check.specs.Claims.{listed, number_at, numbers_of, knows, doing, taken, act_of, act_codes, atom_numbers, row_state, row_of, rows_of}
 use Rattle.task_certificates.specs.Carried.{taking, carried_act, carried_row, task_certificate}
-use Rattle.task_certificates.specs.Laws.{IsCarried, BalanceIsCarried, TaskIsEnclosed}
+use Rattle.task_certificates.specs.Laws.{IsCarried, BalanceIsCarried, TaskIsEnclosed, TaskPolicyEnds}
 
 -- a number that a table of places has is below their count
 placed : (names texts : List (List ℕ)) (i q : ℕ) → get_or (map (place_of names) texts) i None ≡ Some q → q < length names
@@ -123,3 +127,10 @@ task_is_enclosed g task charges is c for =
     certificate_encloses (process task charges) same_state (starts task) (start_den task)
     (starts_are_carried g task charges is).den_positive_there (task_certificate g task c)
     ((balance_is_carried g task charges is c).0 for.balanced)
+
+pub task_policy_ends : TaskPolicyEnds
+task_policy_ends g task charges is sums c for =
+    policy_ends (process task charges) (low same_state (task_certificate g task c).rows)
+    (high (process task charges) same_state (task_certificate g task c).rows) (act same_state (task_certificate g task c).rows)
+    ((balance_is_carried g task charges is c).0 for.balanced).balanced
+    (weight_of-step task charges (chances_are_proper task sums)) (least_step_cost task charges) (steps_cost task charges)

@@ -1,6 +1,6 @@
 -- What is said of the ending: itself, or that there was no memory for its line.
 use Rattle.std.proofs.Common.{rules, inl, inr, refl, sym, ◌∙◌, Ok, Err}
-use Rattle.plan_app.specs.declared.stop.Stop.TheVariants.{NoMemory}
+use Rattle.plan_stop.specs.declared.stop.Stop.TheVariants.{NoMemory}
 use Rattle.std.proofs.KnownBytes.{Appends-nil}
 use Rattle.plan_app.proofs.program.put_ending.Goals as goal
 
@@ -33,7 +33,7 @@ returns-in-Ok-line-clause-cut_short g c = λ four. record {
 pub returns-in-Err-line-clause-put : goal.returns-in-Err-line-clause-put
 returns-in-Err-line-clause-put g c = λ written. record {
   said = Err NoMemory;
-  is_said = inr (refl, λ bad. search (rules, c.in-Err-line.ensures.bad_words (cc (bad, c.in-Err.is))));
+  is_said = inr refl;
   status_is = refl;
   put = Appends-nil (g.O.Sink.taken c.args.out.now);
 }

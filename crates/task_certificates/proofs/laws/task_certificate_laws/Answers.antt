@@ -1,5 +1,5 @@
 -- By the laws of ground problems that stand for tasks.
-use Rattle.task_certificates.proofs.Carried.{is_carried, balance_is_carried, task_is_enclosed}
+use Rattle.task_certificates.proofs.Carried.{is_carried, balance_is_carried, task_is_enclosed, task_policy_ends}
 use Rattle.task_certificates.proofs.laws.task_certificate_laws.Goals as goal
 
 pub returns-clause-carried : goal.returns-clause-carried
@@ -10,3 +10,6 @@ returns-clause-balance c = balance_is_carried
 
 pub returns-clause-encloses : goal.returns-clause-encloses
 returns-clause-encloses c = task_is_enclosed
+
+pub returns-clause-ends : goal.returns-clause-ends
+returns-clause-ends c = task_policy_ends

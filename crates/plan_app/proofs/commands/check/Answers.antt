@@ -1,0 +1,38 @@
+-- The ground problem of the texts, behind it the certificate, and behind both the verdict.
+use Rattle.std.proofs.Common.{rules, Ok, Err}
+use Rattle.plan_request.specs.Shown.{shown_sources}
+use Rattle.plan_app.proofs.Flow.{texts_stop, certificate_stops, judged, calls_behind, calls_alone}
+use Rattle.plan_app.proofs.commands.check.Goals as goal
+
+pub returns-in_err-problem-clause-ends : goal.returns-in_err-problem-clause-ends
+returns-in_err-problem-clause-ends g c =
+    let stop = texts_stop g.S.Shelf.held g.S.Shelf.read_faults c.args.shelf.now (shown_sources c.args.sources.now) c.args.name.now
+    c.problem_of.new.shelf c.in_err-problem.field-0.0 c.in_err-problem.ensures.ends in
+    search (rules, stop)
+
+pub returns-in_err-problem-clause-calls : goal.returns-in_err-problem-clause-calls
+returns-in_err-problem-clause-calls g c =
+    calls_alone g.S.Shelf.held g.S.Shelf.calls c.args.shelf.now c.problem_of.new.shelf (shown_sources c.args.sources.now) c.problem_of.ensures.calls
+
+pub returns-in_err-certificate-clause-ends : goal.returns-in_err-certificate-clause-ends
+returns-in_err-certificate-clause-ends g c =
+    let stop = certificate_stops g.S.Shelf.held g.S.Shelf.read_faults c.args.shelf.now (shown_sources c.args.sources.now) c.args.name.now
+    c.in_ok-problem.problem c.in_ok-problem.ensures.ends c.problem_of.new.shelf c.problem_of.ensures.shelf.held_same
+    c.certificate_of.new.shelf c.problem_of.ensures.shelf.later c.in_err-certificate.field-0.0 c.in_err-certificate.ensures.ends in
+    search (rules, stop)
+
+pub returns-in_err-certificate-clause-calls : goal.returns-in_err-certificate-clause-calls
+returns-in_err-certificate-clause-calls g c =
+    calls_behind g.S.Shelf.held g.S.Shelf.calls c.args.shelf.now c.problem_of.new.shelf c.certificate_of.new.shelf (shown_sources c.args.sources.now)
+    (c.in_ok-problem.problem, c.in_ok-problem.ensures.ends) c.problem_of.ensures.calls c.certificate_of.ensures.calls
+
+pub returns-clause-ends : goal.returns-clause-ends
+returns-clause-ends g c =
+    judged g.S.Shelf.held g.S.Shelf.read_faults c.args.shelf.now (shown_sources c.args.sources.now) c.args.name.now
+    c.in_ok-problem.problem c.in_ok-problem.ensures.ends c.problem_of.new.shelf c.problem_of.ensures.shelf.held_same
+    c.in_ok-certificate.certificate c.in_ok-certificate.ensures.ends c.certificate_of.new.shelf c.judge.result c.judge.ensures
+
+pub returns-clause-calls : goal.returns-clause-calls
+returns-clause-calls g c =
+    calls_behind g.S.Shelf.held g.S.Shelf.calls c.args.shelf.now c.problem_of.new.shelf c.certificate_of.new.shelf (shown_sources c.args.sources.now)
+    (c.in_ok-problem.problem, c.in_ok-problem.ensures.ends) c.problem_of.ensures.calls c.certificate_of.ensures.calls

@@ -1,0 +1,120 @@
+-- What the status of a run says of the words and the bytes, where a shelf tells what it holds.
+--     TellsTexts words held s t     the words ask for something over the texts t, which the shelf tells
+--     TellsGround words held s t    they ask for their ground problem
+--     TellsCheck words held s t f   they ask for the check of the bytes f, which it tells too
+--     HasVerdict status             the status speaks of the words or of bytes, and not of a fault or of memory
+--     IsAnswer status               0, 6, 7 or 8, or want of memory
+--     IsRefused, IsLimited, IsGrounded s t
+--                                   the texts are outside the language; a quantity is above its limit; they have a ground problem
+--     IsDecoded f c                 f is the text of the certificate c, of at most its version's greatest length
+--     IsAccepted, IsRejected s t f  f is, or is not, the text of a certificate that is balanced for the ground problem of the texts
+--     PutsProblem s t old new       the report of the ground problem was put, which stands for the task of the texts
+--     PutsReport s t f old new      such a certificate was accepted, and its report put: for the task of the texts it encloses the cost,
+--                                   and its policy ends
+use Rattle.std.specs.Prelude.{◌≡◌, ◌≢◌, ℕ, ◌*◌, ◌^◌, ◌≤◌, List, [], ◌∷◌, length, Option, Some, None, Ok, Err, Contains}
+use Rattle.std.specs.Borrow.{Bor}
+use Rattle.std.specs.Io.KnownBytes.{Appends}
+use Rattle.shelf_io.specs.Shelf.{Told, Holds}
+use Rattle.certificate.specs.Content.{Content, IsTextOf, most_bytes}
+use Rattle.certificate_check.specs.Claims.{IsBalancedFor}
+use Rattle.decision_process.specs.Enclosing.{Encloses}
+use Rattle.decision_process.specs.Policies.{still}
+use Rattle.decision_process.specs.Readings.{high, act, IsBalancedCertificate}
+use Rattle.ppddl_model.specs.declared.refusal.TextCode.{TextCode}
+use Rattle.ppddl_model.specs.State.{State, same_state}
+use Rattle.ppddl_model.specs.Steps.{process, starts, start_den, step_den, least_step_cost}
+use Rattle.ground_model.specs.Ground.{Ground}
+use Rattle.task_certificates.specs.Carried.{task_certificate}
+use Rattle.plan_request.specs.Asked.{Sources, Asked, to_solve, to_check, to_serve, to_ground, to_bench}
+use Rattle.plan_report.specs.Reports.{accepted_text, ground_text}
+use Rattle.plan_stop.specs.declared.status.TheConstants.{DONE, READ_FAILED, WRITE_FAILED, NO_MEMORY, REFUSED, NOT_ACCEPTED, LIMIT}
+use Rattle.plan_stop.specs.declared.stop.Stop.TheVariants.{Refused, Limit}
+use Rattle.plan_sources.specs.declared.texts.Texts.{Texts}
+use Rattle.plan_sources.specs.Problems.{problem_of}
+use Rattle.plan_sources.specs.Laws.{HoldsTexts, StandsForTexts}
+use Rattle.plan_app.specs.Asking.{Asks}
+
+-- ---- what is asked and told
+
+abbrev pub sources_of : Asked → Option Sources
+sources_of (to_solve s) = Some s.sources
+sources_of (to_check s name) = Some s
+sources_of (to_serve s) = Some s.sources
+sources_of (to_ground s) = Some s
+sources_of (to_bench places seed) = None
+
+module _ (words : List (Bor (List ℕ))) (held : List ℕ → Told) (s : Sources) (t : Texts) where
+  pub record TellsTexts : Type 0 where
+    pub request : Asked
+    pub asks : Asks words request
+    pub sources : sources_of request ≡ Some s
+    pub texts : HoldsTexts held s t
+
+  pub record TellsGround : Type 0 where
+    pub asks : Asks words (to_ground s)
+    pub texts : HoldsTexts held s t
+
+  pub record TellsCheck (f : List ℕ) : Type 0 where
+    pub name : List ℕ
+    pub asks : Asks words (to_check s name)
+    pub texts : HoldsTexts held s t
+    pub certificate : held name ≡ Holds f
+
+-- ---- statuses
+
+pub record HasVerdict (status : ℕ) : Type 0 where
+  pub no_read_fault : status ≢ READ_FAILED
+  pub no_write_fault : status ≢ WRITE_FAILED
+  pub enough_memory : status ≢ NO_MEMORY
+
+abbrev pub IsAnswer : ℕ → Type 0
+IsAnswer status = Contains (DONE ∷ NO_MEMORY ∷ REFUSED ∷ NOT_ACCEPTED ∷ LIMIT ∷ []) status
+
+-- ---- texts
+
+module _ (s : Sources) (t : Texts) where
+  abbrev pub IsRefused : Type 0
+  IsRefused = (code : TextCode) × (file : ℕ) × (line : ℕ) × (problem_of s t ≡ Err (Refused code file line))
+
+  abbrev pub IsLimited : Type 0
+  IsLimited = (code : ℕ) × (most : ℕ) × (problem_of s t ≡ Err (Limit code most))
+
+  abbrev pub IsGrounded : Type 0
+  IsGrounded = (g : Ground) × (problem_of s t ≡ Ok g)
+
+  pub record PutsProblem (old new : Option (List ℕ)) : Type 0 where
+    pub g : Ground
+    pub problem : problem_of s t ≡ Ok g
+    pub of_task : StandsForTexts s t g
+    pub put : Appends old new (ground_text g)
+
+-- ---- certificates
+
+pub record IsDecoded (f : List ℕ) (c : Content) : Type 0 where
+  pub text : IsTextOf f c
+  pub within : length f ≤ most_bytes c.version
+
+module _ (s : Sources) (t : Texts) (f : List ℕ) where
+  abbrev pub IsAccepted : Type 0
+  IsAccepted = (g : Ground) × (c : Content) × (problem_of s t ≡ Ok g) × IsDecoded f c × IsBalancedFor g c
+
+  abbrev pub IsRejected : Type 0
+  IsRejected = (g : Ground) × (problem_of s t ≡ Ok g) × ((c : Content) → IsDecoded f c → IsBalancedFor g c → ⊥)
+
+  pub record PutsReport (old new : Option (List ℕ)) : Type 0 where
+    pub g : Ground
+    pub c : Content
+    pub problem : problem_of s t ≡ Ok g
+    pub decoded : IsDecoded f c
+    pub balanced_for : IsBalancedFor g c
+    pub put : Appends old new (accepted_text c)
+    -- of the task
+    pub of_task : StandsForTexts s t g
+    pub balanced : IsBalancedCertificate (process of_task.task of_task.charges) same_state
+        (starts of_task.task) (start_den of_task.task) (task_certificate g of_task.task c)
+    pub encloses : Encloses (process of_task.task of_task.charges) (starts of_task.task) (start_den of_task.task)
+        c.lower c.upper (act same_state (task_certificate g of_task.task c).rows)
+    pub ends : (n : ℕ) (x : State)
+        → n * least_step_cost of_task.task of_task.charges
+        * still (process of_task.task of_task.charges) (act same_state (task_certificate g of_task.task c).rows) n x
+        ≤ high (process of_task.task of_task.charges) same_state (task_certificate g of_task.task c).rows x * step_den of_task.task ^ n

@@ -1,0 +1,87 @@
+//! The commands, from a request to its report or to what stops it.
+
+ghost use Rattle.std.specs.Prelude.{Some};
+ghost use Rattle.plan_request.specs.Asked.{to_check, to_ground};
+ghost use Rattle.plan_request.specs.Laws.{AreTerms, IsInRange};
+ghost use Rattle.plan_request.specs.Shown.{shown_sources, shown_request};
+ghost use Rattle.plan_sources.specs.Endings.{OnlyRead};
+ghost use Rattle.plan_app.specs.Asking.{asked_by, built};
+ghost use Rattle.plan_app.specs.Endings.{MayEndRequest, MayEndWords, CallsFor, CallsForWords};
+
+use crate::judging::judge;
+use plain_list::Bytes;
+use plan_report::ground_report;
+use plan_request::{Request, Sources, request_laws, request_of};
+use plan_sources::{certificate_of, problem_of};
+use plan_stop::Stop;
+use shelf_io::Shelf;
+use std::alloc::Global;
+
+/// The report that these words ask for, or what stops the run.
+pub(crate) fn report_of<S: Shelf>(
+    alloc: Global,
+    words: &[&str],
+    shelf: &mut S,
+) -> Result<Bytes, Stop>
+    ensures ends { MayEndWords S.held S.read_faults shelf.old shelf.new (asked_by words.now) result }
+    ensures calls { CallsForWords S.held S.calls shelf.old shelf.new (asked_by words.now) }
+    ensures shelf { OnlyRead S.held S.read_faults S.write_faults shelf.old shelf.new }
+{
+    request_laws();
+    match request_of(alloc, words) {
+        Ok(None) => Err(Stop::BadWords),
+        Ok(Some(request)) => answer(alloc, &request, shelf),
+        Err(_) => Err(Stop::NoMemory),
+    }
+}
+
+/// The report of a request, or what stops it. Commands that are not built yet have no request.
+fn answer<S: Shelf>(alloc: Global, request: &Request<'_>, shelf: &mut S) -> Result<Bytes, Stop>
+    requires { IsInRange (shown_request request.now) }
+    ensures ends { MayEndWords S.held S.read_faults shelf.old shelf.new
+        (built (shown_request request.now)) result }
+    ensures calls { CallsForWords S.held S.calls shelf.old shelf.new
+        (built (shown_request request.now)) }
+    ensures shelf { OnlyRead S.held S.read_faults S.write_faults shelf.old shelf.new }
+{
+    match request {
+        Request::Check {
+            sources,
+            certificate,
+        } => check(alloc, sources, certificate, shelf),
+        Request::Ground(sources) => ground(alloc, sources, shelf),
+        Request::Solve(_) | Request::Serve(_) | Request::Bench { .. } => Err(Stop::BadWords),
+    }
+}
+
+/// The report of the certificate under a name, which is asked for behind texts that are accepted.
+fn check<S: Shelf>(
+    alloc: Global,
+    sources: &Sources<'_>,
+    name: &str,
+    shelf: &mut S,
+) -> Result<Bytes, Stop>
+    requires { AreTerms (shown_sources sources.now) }
+    ensures ends { MayEndRequest S.held S.read_faults shelf.old shelf.new
+        (to_check (shown_sources sources.now) name.now) result }
+    ensures calls { CallsFor S.held S.calls shelf.old shelf.new
+        (to_check (shown_sources sources.now) name.now) }
+    ensures shelf { OnlyRead S.held S.read_faults S.write_faults shelf.old shelf.new }
+{
+    let problem = problem_of(alloc, sources, shelf)?;
+    let certificate = certificate_of(alloc, name, shelf)?;
+    judge(alloc, &problem, &certificate)
+}
+
+/// The report of the ground problem of the texts.
+fn ground<S: Shelf>(alloc: Global, sources: &Sources<'_>, shelf: &mut S) -> Result<Bytes, Stop>
+    requires { AreTerms (shown_sources sources.now) }
+    ensures ends { MayEndRequest S.held S.read_faults shelf.old shelf.new
+        (to_ground (shown_sources sources.now)) result }
+    ensures calls { CallsFor S.held S.calls shelf.old shelf.new
+        (to_ground (shown_sources sources.now)) }
+    ensures shelf { OnlyRead S.held S.read_faults S.write_faults shelf.old shelf.new }
+{
+    let problem = problem_of(alloc, sources, shelf)?;
+    Ok(ground_report(alloc, &problem)?)
+}

@@ -1,0 +1,289 @@
+//! Words and texts: what is printed, and each refusal.
+
+use super::texts::{ACCEPTED, COIN, HAUL, NAMED, TIRE_DOMAIN, TIRE_PROBLEM, TWO, edited, joined};
+use super::{Setting, check_run};
+use std::test::Fail;
+
+/// Words that ask for nothing, and forms of words that ask for the same.
+#[test]
+fn words(rt: HostRuntime) -> Result<(), Fail> {
+    let bad = "bad words\n";
+    let rows: [(&[&str], u8, &str); 17] = [
+        (&[], 2, bad),
+        (&["check", "coin"], 2, bad),
+        (&["check", "coin", "--cert", "-c"], 2, bad),
+        (&["check", "coin", "--cert", "c", "--cert", "c"], 2, bad),
+        (&["check", "coin", "--cert", "c", "--penalty", "0"], 2, bad),
+        (&["ground"], 2, bad),
+        (&["ground", "coin", "--cert", "c"], 2, bad),
+        (
+            &["ground", "coin", "--step-cost", "1", "--step-cost", "1"],
+            2,
+            bad,
+        ),
+        (&["help"], 2, bad),
+        (&["solve", "coin"], 2, bad),
+        (
+            &["solve", "coin", "--cert", "c", "--gap", "1", "--gap", "2"],
+            2,
+            bad,
+        ),
+        (&["solve", "coin", "--cert", "c", "--gap", "-1"], 2, bad),
+        (
+            &[
+                "solve",
+                "coin",
+                "--cert",
+                "c",
+                "--states",
+                "65",
+                "--sweep-states",
+                "65",
+            ],
+            2,
+            bad,
+        ),
+        (&["check", "coin", "--cert=c"], 0, ACCEPTED),
+        (&["check", "--cert", "c", "coin"], 0, ACCEPTED),
+        (
+            &["check", "coin", "--cert", "c", "--penalty=10"],
+            0,
+            ACCEPTED,
+        ),
+        (
+            &["check", "coin", "--cert", "c", "--penalty", "9"],
+            7,
+            "not accepted 38 0\n",
+        ),
+    ];
+    for (words, status, text) in rows {
+        let setting = Setting {
+            words,
+            files: &[("coin", COIN), ("c", NAMED)],
+            failing: (0, 0),
+        };
+        check_run(&rt, rt.alloc(), &setting, (status, text))?;
+    }
+    Ok(())
+}
+
+/// Coins outside the language, under `ground`.
+#[test]
+fn refused_coins(rt: HostRuntime) -> Result<(), Fail> {
+    let deep =
+        "(((((((((((((((((((((((((((((((((((((((((((((((((((((((((((((((((((((((((((((((((((((((((((((((((((";
+    let rows: [(&str, &str, &str); 8] = [
+        (
+            "0.5 (done)",
+            "0.6 (done) 0.5 (not (done))",
+            "refused 9 1:5\n",
+        ),
+        ("0.5", "1/0", "refused 11 1:5\n"),
+        ("0.5", "0.1234567890", "refused 11 1:5\n"),
+        ("0.5", "1.5", "refused 8 1:5\n"),
+        // An action that costs nothing.
+        (
+            "  (:action flip",
+            "  (:action wait)\n  (:action flip",
+            "refused 17 1:4\n",
+        ),
+        // Types that are each other's parents.
+        (
+            "  (:requirements",
+            "  (:types a - b b - a)\n  (:requirements",
+            "refused 16 1:2\n",
+        ),
+        // 101 open parentheses.
+        ("(:goal (done))", deep, "refused 3 1:9\n"),
+        ("(:goal-reward 10)", "", "refused 18 1:6\n"),
+    ];
+    for (old, new, text) in rows {
+        let coin = edited(rt.alloc(), COIN, &[(old, new)])?;
+        let setting = Setting {
+            words: &["ground", "coin"],
+            files: &[("coin", coin.as_str())],
+            failing: (0, 0),
+        };
+        check_run(&rt, rt.alloc(), &setting, (6, text))?;
+    }
+    Ok(())
+}
+
+/// The coin cut behind each of its tokens, and before the first one.
+#[test]
+fn cut_coins(rt: HostRuntime) -> Result<(), Fail> {
+    let bytes = COIN.as_bytes();
+    for (end, _) in COIN.char_indices() {
+        let front = &bytes[..end];
+        let is_token = match (front.last(), bytes[end]) {
+            (None, _) => true,
+            (Some(b'(' | b')'), _) => true,
+            (Some(b' ' | b'\n'), _) => false,
+            (Some(_), next) => next == b' ' || next == b'\n' || next == b'(' || next == b')',
+        };
+        if !is_token {
+            continue;
+        }
+        let opened = front.iter().filter(|byte| **byte == b'(').count();
+        let closed = front.iter().filter(|byte| **byte == b')').count();
+        let line = 1 + front.iter().filter(|byte| **byte == b'\n').count();
+        let code = match (end, opened == closed) {
+            (0, _) => 12,
+            (_, true) => 13,
+            (_, false) => 2,
+        };
+        let wanted = format!(in rt.alloc(); "refused {code} 1:{line}\n")?;
+        // Behind the last token nothing is missing.
+        if opened == closed && line == 11 {
+            continue;
+        }
+        let setting = Setting {
+            words: &["ground", "coin"],
+            files: &[("coin", &COIN[..end])],
+            failing: (0, 0),
+        };
+        check_run(&rt, rt.alloc(), &setting, (6, wanted.as_str()))?;
+    }
+    Ok(())
+}
+
+/// The report of two coins.
+const TWO_REPORT: &str = "penalty 10.000000
+atoms 2
+(a)
+(b)
+starts 1
+start 1/1 :
+actions 1
+action (both) 4
+choice 1/4 1.000000 + (a) (b) - when 0
+choice 1/4 1.000000 + (a) - when 0
+choice 1/4 1.000000 + (b) - when 0
+choice 1/4 1.000000 + - when 0
+";
+
+/// The report of the coin with an action that only waits, where a step costs a unit.
+const WAITING_REPORT: &str = "penalty 10.000000
+atoms 1
+(done)
+starts 1
+start 1/1 :
+actions 2
+action (wait) 1
+choice 1/1 1.000000 + - when 0
+action (flip) 2
+choice 1/2 2.000000 + (done) - when 0
+choice 1/2 2.000000 + - when 0
+";
+
+/// Ground problems, in one text and in two, and refusals with the text in which they are.
+#[test]
+fn ground_problems(rt: HostRuntime) -> Result<(), Fail> {
+    let alloc = rt.alloc();
+    let waiting = edited(
+        alloc,
+        COIN,
+        &[("  (:action flip", "  (:action wait)\n  (:action flip")],
+    )?;
+    let tire = joined(alloc, TIRE_DOMAIN, TIRE_PROBLEM)?;
+    let short = edited(alloc, tire.as_str(), &[("(road l1 l2)", "(road l1)")])?;
+    let unknown = edited(alloc, TIRE_PROBLEM, &[("(road l1 l2)", "(road l1 l9)")])?;
+    let free = edited(alloc, HAUL, &[("(= (length a c) 4)", "(= (length a c) 0)")])?;
+    let twice = edited(
+        alloc,
+        HAUL,
+        &[(
+            "(= (length a c) 4)",
+            "(= (length a c) 4) (= (length a b) 2)",
+        )],
+    )?;
+    let files = [
+        ("two", TWO),
+        ("coin", COIN),
+        ("waiting", waiting.as_str()),
+        ("tire", tire.as_str()),
+        ("domain", TIRE_DOMAIN),
+        ("problem", TIRE_PROBLEM),
+        ("short", short.as_str()),
+        ("unknown", unknown.as_str()),
+        ("free", free.as_str()),
+        ("twice", twice.as_str()),
+        ("blank", "; nothing\n\n"),
+        ("empty", ""),
+        ("c", NAMED),
+    ];
+    let rows: [(&[&str], u8, &str); 19] = [
+        (&["ground", "two"], 0, TWO_REPORT),
+        (
+            &["ground", "waiting", "--step-cost", "1"],
+            0,
+            WAITING_REPORT,
+        ),
+        (&["ground", "waiting"], 6, "refused 17 1:4\n"),
+        (
+            &["ground", "blank", "--problem", "waiting"],
+            6,
+            "refused 17 2:4\n",
+        ),
+        // Neither a penalty nor a goal reward.
+        (&["check", "tire", "--cert", "c"], 6, "refused 18 1:15\n"),
+        (
+            &["ground", "domain", "--problem", "problem"],
+            6,
+            "refused 18 2:1\n",
+        ),
+        (&["ground", "short"], 6, "refused 6 1:18\n"),
+        (
+            &["ground", "domain", "--problem", "unknown"],
+            6,
+            "refused 5 2:4\n",
+        ),
+        (&["ground", "free"], 6, "refused 17 1:4\n"),
+        (&["ground", "twice"], 6, "refused 14 1:10\n"),
+        // No definition, and no problem, with the text in which they are missed.
+        (&["ground", "empty"], 6, "refused 12 1:1\n"),
+        (
+            &["ground", "empty", "--problem", "blank"],
+            6,
+            "refused 12 2:3\n",
+        ),
+        (&["ground", "domain"], 6, "refused 13 1:15\n"),
+        (
+            &["ground", "domain", "--problem", "blank"],
+            6,
+            "refused 13 2:3\n",
+        ),
+        // A problem before any domain, and a second domain.
+        (
+            &["ground", "problem", "--problem", "domain"],
+            6,
+            "refused 12 1:1\n",
+        ),
+        (
+            &["ground", "coin", "--problem", "tire"],
+            6,
+            "refused 14 2:1\n",
+        ),
+        // The texts are refused before the certificate is asked for, and a certificate before its problem is checked.
+        (
+            &["check", "empty", "--cert", "missing"],
+            6,
+            "refused 12 1:1\n",
+        ),
+        (
+            &["check", "coin", "--cert", "two"],
+            7,
+            "not accepted 30 1\n",
+        ),
+        (&["ground", "two", "--problem=blank"], 0, TWO_REPORT),
+    ];
+    for (words, status, text) in rows {
+        let setting = Setting {
+            words,
+            files: &files,
+            failing: (0, 0),
+        };
+        check_run(&rt, alloc, &setting, (status, text))?;
+    }
+    Ok(())
+}

@@ -1,0 +1,104 @@
+//! Planning texts and certificates, and texts with other words in places.
+
+use std::alloc::{AllocError, Global};
+
+/// A coin is flipped until it falls as it should.
+pub(super) const COIN: &str = "(define (domain coin)
+  (:requirements :mdp)
+  (:predicates (done))
+  (:action flip
+    :effect (and (decrease (reward) 1) (probabilistic 0.5 (done)))))
+(define (problem toss)
+  (:domain coin)
+  (:init)
+  (:goal (done))
+  (:goal-reward 10)
+  (:metric maximize (reward)))
+";
+
+/// Two coins are flipped at once.
+pub(super) const TWO: &str = "(define (domain two)
+  (:predicates (a) (b))
+  (:action both
+    :effect (and (probabilistic 0.5 (a)) (probabilistic 0.5 (b)))))
+(define (problem two-1)
+  (:domain two) (:init) (:goal (and (a) (b))) (:goal-reward 10))
+";
+
+/// The domain of the triangle tire world.
+pub(super) const TIRE_DOMAIN: &str = "(define (domain triangle-tire)
+  (:requirements :typing :strips :equality :probabilistic-effects)
+  (:types location)
+  (:predicates (vehicle-at ?loc - location) (spare-in ?loc - location)
+    (road ?from - location ?to - location) (not-flattire))
+  (:action move-car
+    :parameters (?from - location ?to - location)
+    :precondition (and (vehicle-at ?from) (road ?from ?to) (not-flattire))
+    :effect (and (vehicle-at ?to) (not (vehicle-at ?from))
+      (probabilistic 0.5 (not (not-flattire)))))
+  (:action changetire
+    :parameters (?loc - location)
+    :precondition (and (spare-in ?loc) (vehicle-at ?loc))
+    :effect (and (not (spare-in ?loc)) (not-flattire))))
+";
+
+/// A problem of it.
+pub(super) const TIRE_PROBLEM: &str = "(define (problem triangle-tire-1)
+  (:domain triangle-tire)
+  (:objects l1 l2 l3 - location)
+  (:init (vehicle-at l1) (road l1 l2) (road l2 l3) (spare-in l2) (not-flattire))
+  (:goal (vehicle-at l3)))
+";
+
+/// Roads with lengths.
+pub(super) const HAUL: &str = "(define (domain haul)
+  (:predicates (at ?x) (road ?x ?y))
+  (:functions (length ?x ?y) - number)
+  (:action go :parameters (?x ?y)
+    :precondition (and (at ?x) (road ?x ?y))
+    :effect (and (at ?y) (not (at ?x)) (decrease (reward) (length ?x ?y)))))
+(define (problem haul-1)
+  (:domain haul) (:objects a b c)
+  (:init (at a) (road a b) (road b c) (road a c)
+    (= (length a b) 1.5) (= (length b c) 2) (= (length a c) 4))
+  (:goal (at c)) (:goal-reward 10))
+";
+
+/// The certificate of the coin, in version 1.
+pub(super) const NAMED: &str =
+    "cert 1\npenalty 10000000\ninterval 2000000 2000000\nstates 1\n2000000 2000000 (flip) :\nend\n";
+
+/// One whose values are close, in version 2.
+pub(super) const NUMBERED: &str = "cert 2
+penalty 10000000
+interval 1999999 2000001
+atoms 0
+acts 1
+(flip)
+states 1
+1999999 2000001 0 :
+end
+";
+
+/// The report of the first one.
+pub(super) const ACCEPTED: &str = "accepted\ninterval 2.000000 2.000000\nstates 1\n";
+
+/// The text with the second word of each pair in place of the first.
+pub(super) fn edited(
+    alloc: Global,
+    text: &str,
+    edits: &[(&str, &str)],
+) -> Result<String, AllocError> {
+    let mut out = String::from_str(alloc, text)?;
+    for (old, new) in edits {
+        out = out.as_str().replace(alloc, *old, new)?;
+    }
+    Ok(out)
+}
+
+/// One text behind another.
+pub(super) fn joined(alloc: Global, first: &str, second: &str) -> Result<String, AllocError> {
+    let mut out = String::from_str(alloc, first)?;
+    out.push_str(second)?;
+    Ok(out)
+}

@@ -1,0 +1,5 @@
+pub mod Taking
+pub mod Grounding
+pub mod Stopping
+pub mod Standing
+pub mod Telling

@@ -1,0 +1,4 @@
+pub mod Endings
+pub mod Problems
+pub mod Sources
+pub mod Laws

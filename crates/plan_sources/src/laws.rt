@@ -1,0 +1,17 @@
+//! What is true of ground problems of texts.
+
+ghost use Rattle.plan_sources.specs.Laws.{OneProblemIsTold, TextsStopSo, ProblemStands};
+
+use grounding::grounding_laws;
+use ppddl_well_formed::task_laws;
+
+/// Texts that are told give one answer; what stops a run there is a refusal or a limit; and a ground
+/// problem stands for the task of its texts.
+pub fn source_laws()
+    ensures told { OneProblemIsTold }
+    ensures stops { TextsStopSo }
+    ensures stands { ProblemStands }
+{
+    task_laws();
+    grounding_laws();
+}

@@ -1,6 +1,0 @@
-pub mod Accepted
-pub mod Derived
-pub mod Proper
-pub mod Thin
-pub mod Told
-pub mod Words
