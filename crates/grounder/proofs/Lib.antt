@@ -3,3 +3,4 @@ pub mod Limiting
 pub mod Totals
 pub mod Ending
 pub mod Standing
+pub mod Counting

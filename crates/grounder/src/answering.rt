@@ -7,6 +7,7 @@ ghost use Rattle.grounding.specs.Limits.{grounded};
 ghost use Rattle.grounder.specs.Answers.{terms_of, Answers, StandsFor};
 
 use crate::charging::charge;
+use crate::objects::early;
 use crate::parts::{Ends, Parts, parts_within};
 use crate::terms::Terms;
 use ground_model::GroundProblem;
@@ -30,8 +31,9 @@ pub fn ground(alloc: Global, task: &Task, terms: &Terms) -> Result<GroundProblem
     ensures stands { IfOk result (λ g. StandsFor g task.now (terms_of terms.now)) }
 {
     grounding_laws();
-    let facts = TaskFacts::make(alloc, task)?;
     let base = base_cost(task, terms.step_cost);
+    early(alloc, task, terms, base)?;
+    let facts = TaskFacts::make(alloc, task)?;
     let penalty = charge(alloc, &facts, terms, base)?;
     let parts = parts_within(alloc, &facts, base)?;
     let Parts {

@@ -4,6 +4,7 @@
 mod answering;
 mod charging;
 mod names;
+mod objects;
 mod parts;
 mod sizing;
 mod terms;

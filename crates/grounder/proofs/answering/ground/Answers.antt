@@ -12,6 +12,12 @@ use Rattle.grounder.proofs.Limiting.{handed_on}
 use Rattle.grounder.proofs.Standing.{asked, made_of, limits_refuse, parts_make, made_stands}
 use Rattle.grounder.proofs.answering.ground.Goals as goal
 
+pub returns-in_err-early-clause-exact : goal.returns-in_err-early-clause-exact
+returns-in_err-early-clause-exact c =
+    let p = err_from_is_err_and c.from_residual.result c.from_residual.ensures.1 in
+    handed_on (λ r. Answers r (grounded c.args.task.now (terms_of c.args.terms.now))) c.from_residual.result c.in_err-early.field-0.0
+    p.0 p.1 p.2 c.in_err-early.ensures
+
 pub returns-in_err-penalty-clause-exact : goal.returns-in_err-penalty-clause-exact
 returns-in_err-penalty-clause-exact c =
     let terms : model.Terms = terms_of c.args.terms.now in
