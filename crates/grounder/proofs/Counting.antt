@@ -1,8 +1,7 @@
 -- How many objects a task has, counted by their names, and what is refused where they are too many.
-use Rattle.std.proofs.Common.{◌≡◌, ℕ, zero, suc, ◌+◌, ◌<◌, ◌≤◌, ◌==◌, Bool, true, false, Option, None, Some, List, [], ◌∷◌, ◌++◌, map, length, append_assoc, append-nil, if◌then◌else◌, refl, sym, ap, subst, ◌∙◌, arith, length-append}
-use Rattle.std.specs.Prelude.{nat_le, cond, Result, Ok, Err}
+use Rattle.std.proofs.Common.{◌≡◌, ℕ, zero, suc, ◌+◌, ◌==◌, Bool, true, false, None, Some, List, [], ◌∷◌, ◌++◌, map, length, append_assoc, append-nil, if◌then◌else◌, refl, sym, ap, ◌∙◌, arith, length-append}
+use Rattle.std.specs.Prelude.{nat_le, cond, Result, Err}
 use Rattle.std.specs.List.{find, list_any}
-use Rattle.std.specs.Option.{option_map}
 use Rattle.plain_list.specs.Results.{◌>>=◌}
 use Rattle.ppddl_model.specs.declared.tree.Action.{Action}
 use Rattle.ppddl_model.specs.declared.tree.ObjectDecl.{ObjectDecl}
@@ -10,7 +9,7 @@ use Rattle.ppddl_model.specs.declared.tree.Task.{Task}
 use Rattle.ppddl_model.specs.State.{Name, same_name}
 use Rattle.ppddl_model.specs.Costs.{unconditional_cost}
 use Rattle.ppddl_model.specs.Objects.{once}
-use Rattle.ppddl_model.specs.Steps.{Charges, Terms, charges_of, base_cost, world}
+use Rattle.ppddl_model.specs.Steps.{Terms, charges_of, base_cost, world}
 use Rattle.type_table.specs.Numbered.{with_name}
 use Rattle.type_table.proofs.Lists.{map_length}
 use Rattle.type_table.proofs.Once.{once-push, names-with_object}
@@ -21,7 +20,6 @@ use Rattle.grounding.specs.declared.refusal.GroundRefusal.TheVariants.{Limit, No
 use Rattle.grounding.specs.Limits.{free_action, limited, limits, grounded, checked}
 use Rattle.task_facts.specs.Adding.{with_names}
 use Rattle.task_charges.specs.Charges.{step_charges, is_free, charged_with}
-use Rattle.grounder.specs.Charged.{IsCharged}
 use Rattle.grounder.specs.ObjectNames.{object_name}
 use Rattle.grounder.proofs.Refusing.{free_is, no_penalty, is_limited}
 

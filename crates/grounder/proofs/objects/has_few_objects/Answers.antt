@@ -1,4 +1,4 @@
-use Rattle.std.proofs.Common.{◌≡◌, [], length, map, sym, ap, ◌∙◌}
+use Rattle.std.proofs.Common.{map, ap, ◌∙◌}
 use Rattle.std.specs.Prelude.{nat_le}
 use Rattle.grounding.specs.declared.limits.TheConstants.{MOST_OBJECTS}
 use Rattle.task_facts.specs.Adding.{with_names}
