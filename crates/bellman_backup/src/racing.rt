@@ -14,26 +14,24 @@ use word_table::{Pass, Words};
 /// Bounds over the shared words, as one pass finds and narrows them while others do. The ids of the starts are
 /// their places.
 #[derive(Drop)]
-pub struct Racing<'a, 'p> {
+pub struct Racing<'a, 'w, 'p> {
     /// The words.
-    pub words: &'a Words<'p>,
+    pub words: &'a Words<'w>,
     /// The pass.
-    pub pass: &'a mut Pass,
+    pub pass: Pass,
     /// The scratch of its backups.
-    pub scratch: &'a mut Scratch<'p>,
+    pub scratch: Scratch<'p>,
     /// The pass and the scratch are of the words, and the pass may claim an id and knows the starts.
-    pub ghost ready: { IsRacing words.now pass.now scratch.now } by { Prim.hlevel (codes, condition.the_row.coded) },
+    pub ghost ready: { IsRacing words.now pass scratch } by { Prim.hlevel (codes, condition.the_row.coded) },
 }
 
-impl<'a, 'p> Racing<'a, 'p> {
-    /// The bounds of a pass, with the scratch of its backups. Both are lent.
-    pub fn new(words: &'a Words<'p>, pass: &'a mut Pass, scratch: &'a mut Scratch<'p>) -> Self
-        requires { IsReady words.now pass.old scratch.old }
+impl<'a, 'w, 'p> Racing<'a, 'w, 'p> {
+    /// The bounds of a pass, with the scratch of its backups.
+    pub fn new(words: &'a Words<'w>, pass: Pass, scratch: Scratch<'p>) -> Self
+        requires { IsReady words.now pass scratch }
         ensures words { result.words.now ≡ words.now }
-        ensures pass { result.pass.now ≡ pass.old }
-        ensures scratch { result.scratch.now ≡ scratch.old }
-        ensures same_pass { result.pass.ghost_name ≡ pass.entry.ghost_name }
-        ensures same_scratch { result.scratch.ghost_name ≡ scratch.entry.ghost_name }
+        ensures pass { result.pass ≡ pass }
+        ensures scratch { result.scratch ≡ scratch.entry }
     {
         Racing {
             words,
@@ -43,23 +41,20 @@ impl<'a, 'p> Racing<'a, 'p> {
     }
 }
 
-impl<'a, 'p> Bounds for Racing<'a, 'p> {
-    ghost use Rattle.std.specs.Prelude.{◌≡◌, map, [], false, refl};
-    ghost use Rattle.std.proofs.Common.{◌∙◌};
+impl<'a, 'w, 'p> Bounds for Racing<'a, 'w, 'p> {
+    ghost use Rattle.std.specs.Prelude.{◌≡◌, map, [], false};
     ghost use Rattle.ground_model.specs.declared.start.Start.{Start};
     ghost use Rattle.word_view.specs.Views.{knows};
     ghost use Rattle.brtdp_trial.specs.Listed.{no_action};
     ghost use Rattle.bellman_backup.specs.Races.{Races, races_on, races_again, weights_still};
 
-    ghost knows = { λ r id. knows r.pass.now.view id };
+    ghost knows = { λ r id. knows r.pass.view id };
 
-    ghost later = { λ r s. (s.pass.ghost_name ≡ r.pass.ghost_name)
-        × (s.scratch.ghost_name ≡ r.scratch.ghost_name)
-        × Races r.words.now r.pass.now r.scratch.now s.words.now s.pass.now s.scratch.now };
+    ghost later = { λ r s. Races r.words.now r.pass r.scratch s.words.now s.pass s.scratch };
 
     ghost weights = { λ r. map (λ (x : Start). x.weight) r.words.now.problem.starts };
 
-    ghost last = { λ r. r.scratch.now.last };
+    ghost last = { λ r. r.scratch.last };
 
     ghost told = { record {
       tells = λ r. false;
@@ -74,7 +69,7 @@ impl<'a, 'p> Bounds for Racing<'a, 'p> {
 
     fn start(&mut self, index: u32) -> Step {
         let weight = self.words.problem().starts()[index as usize].weight;
-        let found = interval(self.words, self.pass, index);
+        let found = interval(self.words, &mut self.pass, index);
         Step {
             weight,
             id: Some(index),
@@ -84,23 +79,19 @@ impl<'a, 'p> Bounds for Racing<'a, 'p> {
     }
 
     fn backup(&mut self, id: u32) -> Backed {
-        backup(self.words, self.pass, id, self.scratch)
+        backup(self.words, &mut self.pass, id, &mut self.scratch)
     }
 
     fn step_of(&self, index: u32) -> Step {
         self.scratch.step_of(index)
     }
 
-    ghost refl = { λ x. (refl, refl, races_on x.words.now x.pass.now x.scratch.now) };
+    ghost refl = { λ x. races_on x.words.now x.pass x.scratch };
 
-    ghost trans = { λ x y z a b. (
-      b.0 ∙ a.0,
-      b.1 ∙ a.1,
-      races_again x.words.now x.pass.now x.scratch.now
-          y.words.now y.pass.now y.scratch.now z.words.now z.pass.now z.scratch.now a.2 b.2,
-    ) };
+    ghost trans = { λ x y z a b. races_again x.words.now x.pass x.scratch
+        y.words.now y.pass y.scratch z.words.now z.pass z.scratch a b };
 
-    ghost known_stays = { λ x y id a known. a.2.noted.known id known };
+    ghost known_stays = { λ x y id a known. a.noted.known id known };
 
-    ghost weights_stay = { λ x y a. weights_still x.words.now y.words.now a.2.words };
+    ghost weights_stay = { λ x y a. weights_still x.words.now y.words.now a.words };
 }

@@ -9,21 +9,18 @@ pub interval-found-requires-clause-known : goal.interval-found-requires-clause-k
 interval-found-requires-clause-known c =
     let self = c.args.self.now in let starts = self.words.now.problem.starts in
     let below : c.args.index < length starts = (let e = length-map starts (λ (x : Start). x.weight) in let r = c.requires in omega arith) in
-    (racing_is_ready self.words.now self.pass.now self.scratch.now self.ready).starts c.args.index below
+    (racing_is_ready self.words.now self.pass self.scratch self.ready).starts c.args.index below
 
 pub returns-clause-later : goal.returns-clause-later
 returns-clause-later c =
-    let self = c.args.self.now in let b = self.words.now in let k = self.pass.now in let l = c.interval-found.new.pass in (
-      refl,
-      refl,
-      races_by b k l self.scratch.now self.scratch.now self.ready.here
-          (keeps_interval b k l c.args.index c.interval-found.result self.ready.here c.interval-found.ensures.seen) refl,
-    )
+    let self = c.args.self.now in let b = self.words.now in let k = self.pass in let l = c.interval-found.new.pass in
+    races_by b k l self.scratch self.scratch self.ready.here
+    (keeps_interval b k l c.args.index c.interval-found.result self.ready.here c.interval-found.ensures.seen) refl
 
 pub returns-clause-known : goal.returns-clause-known
 returns-clause-known c =
-    let self = c.args.self.now in let b = self.words.now in let k = self.pass.now in let l = c.interval-found.new.pass in
+    let self = c.args.self.now in let b = self.words.now in let k = self.pass in let l = c.interval-found.new.pass in
     let starts = b.problem.starts in
     let below : c.args.index < length starts = (let e = length-map starts (λ (x : Start). x.weight) in let r = c.requires in omega arith) in
-    start_is_known b k l self.scratch.now c.args.index self.ready
+    start_is_known b k l self.scratch c.args.index self.ready
     (keeps_interval b k l c.args.index c.interval-found.result self.ready.here c.interval-found.ensures.seen) below

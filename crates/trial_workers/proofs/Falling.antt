@@ -1,0 +1,42 @@
+-- A sweep, one id after another.
+use Rattle.std.proofs.Common.{◌≡◌, ℕ, ◌+◌, ◌<◌, ◌≤◌, refl, sym, ◌∙◌, subst, arith}
+use mathlib.Core.Logic.{dite}
+use native.Mathlib.Decide.{ℕ_discrete}
+use Rattle.ground_model.specs.Ground.{Ground}
+use Rattle.word_view.specs.declared.view.View.{View}
+use Rattle.word_view.specs.Laws.{HasMore}
+use Rattle.word_table.specs.Seen.{Board, Knowledge, IsOf}
+use Rattle.bellman_backup.specs.Scratches.{ScratchView}
+use Rattle.bellman_backup.specs.Races.{has_all}
+use Rattle.bellman_backup.specs.Backups.{Keeps, Narrows}
+use Rattle.trial_workers.specs.Workers.{Stays, HasSwept}
+use Rattle.trial_workers.proofs.Passes.{stays_all, stays_again, keeps_stays, narrows_wider}
+
+pub record Sweeping (b : Board) (k l : Knowledge) (x y : ScratchView) (id past : ℕ) : Type 0 where
+  pub stays : Stays b k l
+  pub problem : y.problem ≡ x.problem
+  pub within : id ≤ past
+  pub swept : HasSwept b.problem id past k.view l.view
+
+pub sweep_begins : (b : Board) (k : Knowledge) (x : ScratchView) (past : ℕ) → IsOf b k → Sweeping b k k x x past past
+sweep_begins b k x past here = record {
+  stays = stays_all b k here;
+  problem = refl;
+  within = omega arith;
+  swept = λ j from below. absurd (omega arith);
+}
+
+pub one_id_more : (b : Board) (k l m : Knowledge) (x y z : ScratchView) (id here past : ℕ) → here + 1 ≡ id → Sweeping b k l x y id past
+    → Keeps b l m → z.problem ≡ y.problem → Narrows b.problem l.view m.view here → Sweeping b k m x z here past
+one_id_more b k l m x y z id here past next so keeps same narrows = record {
+  stays = stays_again b k l m so.stays (keeps_stays b l m keeps);
+  problem = same ∙ so.problem;
+  within = (let w = so.within in omega arith);
+  swept = λ j from below. dite (ℕ_discrete j here)
+      (λ is. subst (Narrows b.problem k.view m.view) (sym is)
+      (narrows_wider b.problem k.view l.view m.view m.view here so.stays.noted (has_all m.view) narrows))
+      (λ other. narrows_wider b.problem k.view k.view l.view m.view j (has_all k.view) keeps.noted (so.swept j (omega arith) below));
+}
+
+pub swept_more : (g : Ground) (first past : ℕ) (u v w : View) → HasMore v w → HasSwept g first past u v → HasSwept g first past u w
+swept_more g first past u v w more swept j from below = narrows_wider g u u v w j (has_all u) more (swept j from below)

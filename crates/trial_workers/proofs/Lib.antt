@@ -1,0 +1,11 @@
+pub mod Passes
+pub mod Falling
+pub mod Running
+pub mod Hearing
+pub mod Rounding
+pub mod Counting
+pub mod Whole
+pub mod Looping
+pub mod Dividing
+pub mod Making
+pub mod Sending

@@ -1,0 +1,135 @@
+-- How a crew is made.
+use Rattle.std.proofs.Common.{◌≡◌, ℕ, zero, suc, ◌+◌, ◌-◌, ◌<◌, ◌≤◌, Option, Some, None, List, [], ◌∷◌, ◌++◌, length, get_or, All, refl, sym, ap, ◌∙◌, subst, arith}
+use Rattle.std.specs.List.{slice_get}
+use Rattle.std.proofs.lemmas.List.{length-append}
+use Rattle.ground_model.specs.Packed.{State}
+use Rattle.ground_model.specs.Ground.{Ground}
+use Rattle.word_view.specs.declared.view.View.{View}
+use Rattle.word_view.specs.Laws.{HasMore}
+use Rattle.word_view.specs.Steps.{without_rights}
+use Rattle.word_view.proofs.Seen.{has_state_more}
+use Rattle.word_table.specs.Seen.{Board, Knowledge, knowledge, IsOf, with_rights}
+use Rattle.brtdp_trial.specs.declared.run.Run.{Run}
+use Rattle.brtdp_trial.specs.Paths.{new_path}
+use Rattle.bellman_backup.specs.Scratches.{new_scratch}
+use Rattle.trial_workers.specs.declared.worker.Worker.{Worker}
+use Rattle.trial_workers.specs.Workers.{HasListed, IsWorkerOf, IsRun}
+use Rattle.trial_workers.specs.declared.desk.Desk.{Desk}
+use Rattle.trial_workers.specs.Crews.{IsCrewOf, FirstHas, IsNewCrew, IsDesk, AreDesks, new_worker, one_right}
+
+none_is_not_run : (r : Run) → None ≡ Some r → ⊥
+none_is_not_run r same = cc
+
+pub new_is_worker : (b : Board) (k : Knowledge) (depth : ℕ) → IsOf b k → IsWorkerOf b depth (new_worker b.problem k depth)
+new_is_worker b k depth of = record {
+  fit = record {
+    here = record { table = of.table; view = record { live = of.view.live; problem = of.view.problem; layout = of.view.layout } };
+    right = omega arith;
+    room = refl;
+    run = λ r is. absurd (none_is_not_run r is);
+  };
+  scratch = new_scratch b.problem;
+  has = refl;
+  problem = refl;
+}
+
+more_with_right : (v : View) → HasMore v (with_rights 1 (without_rights v))
+more_with_right v = record {
+  problem = refl;
+  layout = refl;
+  known = λ id there. there;
+  held = λ n there. there;
+  words = λ id place x there. there;
+  lower = λ n there. there;
+  upper = λ n there. there;
+}
+
+pub new_is_crew : (b : Board) (k : Knowledge) (n depth : ℕ) (ws : List Worker) → IsOf b k → (1 ≤ n) × (n ≤ 16) → IsNewCrew b.problem k n depth ws → IsCrewOf b depth ws
+new_is_crew b k n depth ws of count new = record {
+  some = (let c = new.count in omega arith);
+  few = (let c = new.count in omega arith);
+  each = λ i d below. subst (IsWorkerOf b depth) (sym (new.each i d below)) (new_is_worker b k depth of);
+}
+
+pub new_has : (g : Ground) (k : Knowledge) (n depth : ℕ) (ws : List Worker) (states : List State) → 1 ≤ n → IsNewCrew g k n depth ws → HasListed states k.view → FirstHas states ws
+new_has g k n depth [] states some new has = absurd (let c = new.count in omega arith)
+new_has g k n depth (w ∷ ws) states some new has =
+    let is : w ≡ new_worker g k depth = new.each 0 w (omega arith) in
+    subst (λ (x : Worker). HasListed states x.pass.view) (sym is) (λ id s at.
+    let h = has id s at in (h.0, has_state_more k.view (with_rights 1 (without_rights k.view)) (more_with_right k.view) id s h.1))
+
+pub one_more : {X : Type 0} (P : X → Type 0) (xs : List X) (x : X) → All P xs → P x → All P (xs ++ x ∷ [])
+one_more P [] x all one zero d below = one
+one_more P [] x all one (suc i) d below = absurd (omega arith)
+one_more P (y ∷ ys) x all one zero d below = all 0 d (omega arith)
+one_more P (y ∷ ys) x all one (suc i) d below = one_more P ys x (λ k e inside. all (suc k) e (omega arith)) one i d (omega arith)
+
+pub desks_begin : (g : Ground) (depth : ℕ) → AreDesks g depth 0 []
+desks_begin g depth = record { count = refl; each = λ k d below. absurd (omega arith) }
+
+pub one_desk_more : (g : Ground) (depth n : ℕ) (desks : List Desk) (desk : Desk) → AreDesks g depth n desks → desk.scratch ≡ new_scratch g → desk.path ≡ new_path depth
+    → AreDesks g depth (n + 1) (desks ++ desk ∷ [])
+one_desk_more g depth n desks desk so scratch path = record {
+  count = length-append desks (desk ∷ []) ∙ (let c = so.count in omega arith);
+  each = one_more (IsDesk g depth) desks desk so.each (record { scratch = scratch; path = path });
+}
+
+last_of : {X : Type 0} (P : X → Type 0) (xs : List X) (x : X) → All P (xs ++ x ∷ []) → P x
+last_of P [] x all = all 0 x (omega arith)
+last_of P (y ∷ xs) x all = last_of P xs x (λ k d below. all (suc k) d (omega arith))
+
+first_of : {X : Type 0} (P : X → Type 0) (xs : List X) (x : X) → All P (xs ++ x ∷ []) → All P xs
+first_of P [] x all k d below = absurd (omega arith)
+first_of P (y ∷ xs) x all zero d below = all 0 d (omega arith)
+first_of P (y ∷ xs) x all (suc k) d below = first_of P xs x (λ j e inside. all (suc j) e (omega arith)) k d (omega arith)
+
+-- ---- so many workers have desks and passes
+
+pub record Seating (b : Board) (k : Knowledge) (n depth : ℕ) (i : ℕ) (desks : List Desk) (ws : List Worker) (k' : Knowledge) : Type 0 where
+  pub seated : IsNewCrew b.problem k i depth ws
+  pub left : length desks + i ≡ n
+  pub fit : All (IsDesk b.problem depth) desks
+  pub pass : k' ≡ knowledge k.table (with_rights (n - i) k.view)
+
+pub seating_begins : (b : Board) (k : Knowledge) (n depth : ℕ) (desks : List Desk) → k.view.rights ≡ n → AreDesks b.problem depth n desks → Seating b k n depth 0 desks [] k
+seating_begins b k n depth desks rights are = record {
+  seated = record { count = refl; each = λ j d below. absurd (omega arith) };
+  left = (let c = are.count in omega arith);
+  fit = are.each;
+  pass = (λ t. knowledge k.table (with_rights ((let e : k.view.rights ≡ n - 0 = (let r = rights in omega arith) in e) t) k.view));
+}
+
+module _ (b : Board) (k : Knowledge) (n depth i : ℕ) (desks : List Desk) (ws : List Worker) (pass : Knowledge) (below : i < n) (so : Seating b k n depth i desks ws pass) where
+  pub pass_is_of : IsOf b k → IsOf b pass
+  pass_is_of of = subst (IsOf b) (sym so.pass) (record { table = of.table; view = record { live = of.view.live; problem = of.view.problem; layout = of.view.layout } })
+
+  pub pass_has_right : 1 ≤ pass.view.rights
+  pass_has_right = subst (λ (l : Knowledge). 1 ≤ l.view.rights) (sym so.pass) (let e : 1 ≤ n - i = omega arith in e)
+
+  pub pass_is_free : k.view.spare ≡ None → pass.view.spare ≡ None
+  pass_is_free free = subst (λ (l : Knowledge). l.view.spare ≡ None) (sym so.pass) free
+
+  pub one_seated : (rest : List Desk) (desk : Desk) (w : Worker) (left : Knowledge) → desks ≡ rest ++ desk ∷ []
+      → w ≡ record { pass = knowledge pass.table (with_rights 1 (without_rights pass.view)); scratch = Some desk.scratch; path = desk.path; first_id = 0; past_id = 0; first_trial = 0; past_trial = 0 }
+      → left ≡ knowledge pass.table (with_rights (pass.view.rights - 1) pass.view) → Seating b k n depth (i + 1) rest (ws ++ w ∷ []) left
+  one_seated rest desk w left split worker stays =
+      let one : IsDesk b.problem depth desk = last_of (IsDesk b.problem depth) rest desk (subst (All (IsDesk b.problem depth)) split so.fit) in
+      let new : w ≡ new_worker b.problem k depth =
+      worker ∙ (λ t. record {
+        pass = knowledge (so.pass t).table (with_rights 1 (without_rights (so.pass t).view));
+        scratch = Some (one.scratch t);
+        path = one.path t;
+        first_id = 0;
+        past_id = 0;
+        first_trial = 0;
+        past_trial = 0;
+      }) in record {
+        seated = record {
+          count = length-append ws (w ∷ []) ∙ (let c = so.seated.count in omega arith);
+          each = one_more (λ x. x ≡ new_worker b.problem k depth) ws w so.seated.each new;
+        };
+        left = (let e = ap (λ (l : List Desk). length l) split in let a = length-append rest (desk ∷ []) in let l = so.left in omega arith);
+        fit = first_of (IsDesk b.problem depth) rest desk (subst (All (IsDesk b.problem depth)) split so.fit);
+        pass = stays ∙ (λ t. knowledge (so.pass t).table (with_rights ((so.pass t).view.rights - 1) (so.pass t).view))
+            ∙ (λ t. knowledge k.table (with_rights ((let e : n - i - 1 ≡ n - (i + 1) = omega arith in e) t) k.view));
+      }

@@ -1,0 +1,155 @@
+-- A worker's trials, one after another.
+use Rattle.std.proofs.Common.{◌≡◌, ℕ, ◌+◌, ◌<◌, ◌≤◌, ◌==◌, ◌&&◌, Bool, true, false, cond, Option, Some, None, refl, sym, ap, ◌∙◌, subst, arith, inl, inr}
+use Rattle.std.proofs.lemmas.Bool.{cases_Bool, cases_lt, eq-eqb, eqb-true, and_from, and_parts}
+use Rattle.word_view.specs.Views.{knows}
+use Rattle.word_table.specs.Seen.{Board, Knowledge, IsOf}
+use Rattle.brtdp_trial.specs.declared.run.Run.{Run}
+use Rattle.brtdp_trial.specs.Runs.{run_alone, goes_on, next_run}
+use Rattle.brtdp_trial.specs.Paths.{PathView}
+use Rattle.bellman_backup.specs.Scratches.{ScratchView}
+use Rattle.bellman_backup.specs.Races.{IsReady}
+use Rattle.trial_workers.specs.declared.effort.Effort.{Effort}
+use Rattle.trial_workers.specs.declared.worker.Worker.{Worker}
+use Rattle.trial_workers.specs.Workers.{Stays, IsRun, IsRunOf, IsFit, IsWorkerOf, ShowsTrials, HasTurnsKnown, CanTry, HasTried}
+use Rattle.trial_workers.proofs.Passes.{stays_all, stays_again}
+
+-- ---- runs
+
+some_is : (r s : Run) → Some r ≡ Some s → r ≡ s
+some_is r s same = cc
+
+none_is_not_some : (r : Run) → None ≡ Some r → ⊥
+none_is_not_some r same = cc
+
+goes_on_when : (r : Run) (n seed tau : ℕ) → r.last + 1 ≡ n → r.seed ≡ seed → r.tau ≡ tau → goes_on r n seed tau ≡ true
+goes_on_when r n seed tau last same_seed same_tau =
+    let a : (r.last + 1 == n) ≡ true = eq-eqb (r.last + 1) n last in
+    let b : (r.seed == seed) ≡ true = eq-eqb r.seed seed same_seed in
+    let c : (r.tau == tau) ≡ true = eq-eqb r.tau tau same_tau in
+    and_from (r.last + 1 == n) ((r.seed == seed) && (r.tau == tau)) a (and_from (r.seed == seed) (r.tau == tau) b c)
+
+goes_on_says : (r : Run) (n seed tau : ℕ) → goes_on r n seed tau ≡ true → (r.last + 1 ≡ n) × (r.seed ≡ seed) × (r.tau ≡ tau)
+goes_on_says r n seed tau on =
+    let one = and_parts (r.last + 1 == n) ((r.seed == seed) && (r.tau == tau)) on in
+    let two = and_parts (r.seed == seed) (r.tau == tau) one.1 in
+    (eqb-true (r.last + 1) n one.0, eqb-true r.seed seed two.0, eqb-true r.tau tau two.1)
+
+-- one trial longer, or alone
+abbrev longer : Run → ℕ → Run
+longer r n = record r { last = n }
+
+next_is_longer : (r : Run) (n seed tau : ℕ) → goes_on r n seed tau ≡ true → next_run (Some r) n seed tau ≡ longer r n
+next_is_longer r n seed tau on = ap (λ b. cond b (longer r n) (run_alone n seed tau)) on
+
+next_is_alone : (r : Run) (n seed tau : ℕ) → goes_on r n seed tau ≡ false → next_run (Some r) n seed tau ≡ run_alone n seed tau
+next_is_alone r n seed tau off = ap (λ b. cond b (longer r n) (run_alone n seed tau)) off
+
+alone_is_run : (n seed tau : ℕ) → IsRun (run_alone n seed tau)
+alone_is_run n seed tau = omega arith
+
+pub next_is_run : (old : Option Run) (n seed tau : ℕ) → ((r : Run) → old ≡ Some r → IsRun r) → IsRun (next_run old n seed tau)
+next_is_run None n seed tau rises = alone_is_run n seed tau
+next_is_run (Some r) n seed tau rises = elim (cases_Bool (goes_on r n seed tau)) [
+  | inl on ↦ subst IsRun (sym (next_is_longer r n seed tau on)) (let a = rises r refl in let b = (goes_on_says r n seed tau on).0 in omega arith)
+  | inr off ↦ subst IsRun (sym (next_is_alone r n seed tau off)) (alone_is_run n seed tau)
+]
+
+-- the run so far, where there was a trial
+abbrev SoFar : Effort → ℕ → ℕ → Option Run → Type 0
+SoFar e first n old = first < n → (r : Run) × (old ≡ Some r) × IsRunOf e first n r
+
+module _ (e : Effort) (first n : ℕ) (from : first ≤ n) where
+  alone_is_of : n ≤ first → IsRunOf e first (n + 1) (run_alone n e.seed e.tau)
+  alone_is_of new = record { first_within = new; last_is = refl; seed = refl; tau = refl }
+
+  longer_is_of : (r : Run) → IsRun r → SoFar e first n (Some r) → goes_on r n e.seed e.tau ≡ true → IsRunOf e first (n + 1) (longer r n)
+  longer_is_of r rises so on =
+      let says = goes_on_says r n e.seed e.tau on in record {
+        first_within = elim (cases_lt first n) [
+          | inl later ↦ (let o = so later in let same = some_is r o.0 o.1 in let w = o.2.first_within in let f = ap (λ (x : Run). x.first) same in omega arith)
+          | inr here ↦ (let a = says.0 in omega arith)
+        ];
+        last_is = refl;
+        seed = says.1;
+        tau = says.2;
+      }
+
+  not_alone : (r : Run) → SoFar e first n (Some r) → goes_on r n e.seed e.tau ≡ false → n ≤ first
+  not_alone r so off = elim (cases_lt first n) [
+    | inl later ↦ (let o = so later in let same = some_is r o.0 o.1 in let is = subst (IsRunOf e first n) (sym same) o.2 in
+        absurd (both (goes_on r n e.seed e.tau) (goes_on_when r n e.seed e.tau is.last_is is.seed is.tau) off))
+    | inr here ↦ here
+  ] where
+    both : (b : Bool) → b ≡ true → b ≡ false → ⊥
+    both b on off = cc
+
+  pub run_goes_on : (old : Option Run) → ((r : Run) → old ≡ Some r → IsRun r) → SoFar e first n old → IsRunOf e first (n + 1) (next_run old n e.seed e.tau)
+  run_goes_on None rises so = alone_is_of (elim (cases_lt first n) [ inl later ↦ absurd (none_is_not_some (so later).0 (so later).1) | inr here ↦ here ])
+  run_goes_on (Some r) rises so = elim (cases_Bool (goes_on r n e.seed e.tau)) [
+    | inl on ↦ subst (IsRunOf e first (n + 1)) (sym (next_is_longer r n e.seed e.tau on)) (longer_is_of r (rises r refl) so on)
+    | inr off ↦ subst (IsRunOf e first (n + 1)) (sym (next_is_alone r n e.seed e.tau off)) (alone_is_of (not_alone r so off))
+  ]
+
+-- ---- a worker's trials up to below n
+
+pub record Trying (b : Board) (e : Effort) (v w : Worker) (x : ScratchView) (n : ℕ) : Type 0 where
+  pub can : CanTry b e.depth w
+  pub problem : x.problem ≡ b.problem
+  pub stays : Stays b v.pass w.pass
+  pub part : (w.first_trial ≡ v.first_trial) × (w.past_trial ≡ v.past_trial)
+  pub from : v.first_trial ≤ n
+  pub within : v.first_trial < v.past_trial → n ≤ v.past_trial
+  pub trials : v.first_trial < n → ShowsTrials e v.first_trial n w
+
+pub tries_begin : (b : Board) (e : Effort) (v : Worker) (x : ScratchView) → CanTry b e.depth v → x.problem ≡ b.problem → Trying b e v v x v.first_trial
+tries_begin b e v x can problem = record {
+  can = can;
+  problem = problem;
+  stays = stays_all b v.pass can.fit.here;
+  part = (refl, refl);
+  from = omega arith;
+  within = λ some. omega arith;
+  trials = λ later. absurd (omega arith);
+}
+
+pub tries_end : (b : Board) (e : Effort) (v w : Worker) (x : ScratchView) (n : ℕ) → Trying b e v w x n → v.past_trial ≤ n → HasTried b e v w
+tries_end b e v w x n so past = record {
+  fit = so.can.fit;
+  stays = so.stays;
+  trials = λ some. let same : n ≡ v.past_trial = (let a = so.within some in omega arith) in subst (λ m. ShowsTrials e v.first_trial m w) same (so.trials (omega arith));
+}
+
+pub is_ready : (b : Board) (depth : ℕ) (w : Worker) (x : ScratchView) → CanTry b depth w → x.problem ≡ b.problem → IsReady b w.pass x
+is_ready b depth w x can problem = record { here = can.fit.here; right = can.fit.right; problem = problem; starts = can.starts }
+
+abbrev with_trial : Worker → Knowledge → PathView → Worker
+with_trial w k p = record w { pass = k; path = p }
+
+pub one_trial_more : (b : Board) (e : Effort) (v w : Worker) (x : ScratchView) (k : Knowledge) (y : ScratchView) (p : PathView) (n : ℕ) → Trying b e v w x n → n < v.past_trial
+    → Stays b w.pass k → y.problem ≡ b.problem → p.room ≡ w.path.room → p.run ≡ Some (next_run w.path.run n e.seed e.tau) → HasTurnsKnown k.view p
+    → Trying b e v (with_trial w k p) y (n + 1)
+one_trial_more b e v w x k y p n so below stays problem room run known =
+    let old = so.can.fit in
+    let rises : IsRun (next_run w.path.run n e.seed e.tau) = next_is_run w.path.run n e.seed e.tau old.run in
+    let so_far : SoFar e v.first_trial n w.path.run = λ later. let t = so.trials later in (t.run, t.shown, t.is) in record {
+      can = record {
+        fit = record {
+          here = stays.here;
+          right = (let a = old.right in let c = stays.rights in omega arith);
+          room = room ∙ old.room;
+          run = λ r is. subst IsRun (some_is (next_run w.path.run n e.seed e.tau) r (sym run ∙ is)) rises;
+        };
+        starts = λ id inside. stays.noted.known id (so.can.starts id inside);
+      };
+      problem = problem;
+      stays = stays_again b v.pass w.pass k so.stays stays;
+      part = so.part;
+      from = (let f = so.from in omega arith);
+      within = λ some. omega arith;
+      trials = λ later. record {
+        run = next_run w.path.run n e.seed e.tau;
+        shown = run;
+        is = run_goes_on e v.first_trial n so.from w.path.run old.run so_far;
+        known = known;
+      };
+    }

@@ -1,0 +1,14 @@
+use Rattle.std.proofs.Common.{◌≡◌, sym, ap, ◌∙◌}
+use Rattle.trial_workers.proofs.Passes.{same_rights, own_is_ready, raced_stays}
+use Rattle.trial_workers.proofs.trying.race.Goals as goal
+
+pub new-bounds-requires : goal.new-bounds-requires
+new-bounds-requires c =
+    own_is_ready c.args.words.now c.args.pass.now c.replace-own.result c.args.scratch (c.replace-own.ensures.value ∙ (c.split-copy.ensures.old ∙ same_rights c.args.pass.now)) c.requires.ready
+
+pub returns-clause-stays : goal.returns-clause-stays
+returns-clause-stays c =
+    let b = c.args.words.now in let own = c.replace-own.ensures.value ∙ (c.split-copy.ensures.old ∙ same_rights c.args.pass.now) in
+    raced_stays b c.args.pass.now c.args.scratch c.new-bounds.result.words.now c.new-bounds.result.pass c.new-bounds.result.scratch
+    c.trial.new.bounds.words.now c.trial.new.bounds.pass c.trial.new.bounds.scratch c.requires.ready.here
+    c.new-bounds.ensures.words (c.new-bounds.ensures.pass ∙ own) c.trial.ensures.later

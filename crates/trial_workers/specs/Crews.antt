@@ -1,0 +1,101 @@
+-- Crews: lists of workers, of which the first is worker 0.
+--     IsCrewOf b depth ws        1 to 16 workers over these words, for trials of so many turns
+--     FirstHas states ws         worker 0 has each state of the list, with its place as its id
+--     IsListed g explored        the states near the starts of the problem, as exploring answers them
+--     IsNewCrew g k n depth ws   n workers that know and have seen what the pass k does, with one right each
+--     AreDesks g depth n desks   what they need beside their passes
+--     IsFirstPass ws k           k is the pass of worker 0
+--     HaveStayed b os ns         each worker has noted all that it had noted, and has the same rights
+--     HaveTrials e number ws     each worker that has trials in the round of this number shows them
+--     HasReadMeans b v w m       the means are between what v and w have seen, over a problem within its limits
+--     FirstReads b os ns m       worker 0 has read the means of the starts' bounds; nothing else is changed
+use Rattle.std.specs.Prelude.{◌≡◌, ℕ, ◌+◌, ◌*◌, ◌<◌, ◌≤◌, Some, None, List, [], ◌∷◌, length, All}
+use Rattle.std.specs.List.{slice_get, AllZip}
+use Rattle.ground_model.specs.Packed.{State}
+use Rattle.ground_model.specs.Ground.{Ground}
+use Rattle.ground_model.specs.Invariant.{IsGroundProblem}
+use Rattle.word_view.specs.declared.view.View.{View}
+use Rattle.word_view.specs.Steps.{without_rights}
+use Rattle.word_table.specs.Seen.{Board, Knowledge, knowledge, with_rights}
+use Rattle.brtdp_trial.specs.Paths.{new_path}
+use Rattle.bellman_backup.specs.Scratches.{new_scratch}
+use Rattle.state_explorer.specs.declared.explored.Explored.{Explored}
+use Rattle.state_explorer.specs.declared.explored.TheConstants.{MOST_SWEPT}
+use Rattle.state_explorer.specs.Explored.{IsExplored}
+use Rattle.start_means.specs.declared.means.Means.{Means}
+use Rattle.start_means.specs.Means.{AreMeans}
+use Rattle.trial_workers.specs.declared.desk.Desk.{Desk}
+use Rattle.trial_workers.specs.declared.effort.Effort.{Effort}
+use Rattle.trial_workers.specs.declared.worker.Worker.{Worker}
+use Rattle.trial_workers.specs.Parts.{share_of}
+use Rattle.trial_workers.specs.Workers.{Stays, HasListed, IsWorkerOf, ShowsTrials}
+use Rattle.trial_workers.specs.Rounds.{with_pass}
+
+pub record IsCrewOf (b : Board) (depth : ℕ) (ws : List Worker) : Type 0 where
+  pub some : 0 < length ws
+  pub few : length ws ≤ 16
+  pub each : All (IsWorkerOf b depth) ws
+
+abbrev pub FirstHas : List State → List Worker → Type 0
+FirstHas states [] = ⊥
+FirstHas states (w ∷ ws) = HasListed states w.pass.view
+
+abbrev pub IsListed : Ground → Explored → Type 0
+IsListed g explored = (most : ℕ) × (most ≤ MOST_SWEPT) × IsExplored g most explored
+
+-- ---- new crews
+
+abbrev pub one_right : Knowledge → Knowledge
+one_right k = knowledge k.table (with_rights 1 (without_rights k.view))
+
+abbrev pub new_worker : Ground → Knowledge → ℕ → Worker
+new_worker g k depth = record {
+  pass = one_right k;
+  scratch = Some (new_scratch g);
+  path = new_path depth;
+  first_id = 0;
+  past_id = 0;
+  first_trial = 0;
+  past_trial = 0;
+}
+
+pub record IsNewCrew (g : Ground) (k : Knowledge) (n depth : ℕ) (ws : List Worker) : Type 0 where
+  pub count : length ws ≡ n
+  pub each : All (λ w. w ≡ new_worker g k depth) ws
+
+pub record IsDesk (g : Ground) (depth : ℕ) (desk : Desk) : Type 0 where
+  pub scratch : desk.scratch ≡ new_scratch g
+  pub path : desk.path ≡ new_path depth
+
+pub record AreDesks (g : Ground) (depth n : ℕ) (desks : List Desk) : Type 0 where
+  pub count : length desks ≡ n
+  pub each : All (IsDesk g depth) desks
+
+abbrev pub IsFirstPass : List Worker → Knowledge → Type 0
+IsFirstPass ws k = (w : Worker) → slice_get ws 0 ≡ Some w → k ≡ w.pass
+
+-- ---- rounds
+
+abbrev pub HaveStayed : Board → List Worker → List Worker → Type 0
+HaveStayed b os ns = AllZip (λ (o n : Worker). Stays b o.pass n.pass) os ns
+
+abbrev pub trial_at : Effort → ℕ → ℕ → ℕ → ℕ
+trial_at e number workers i = number * e.trials + share_of e.trials workers i
+
+abbrev pub HasTrials : Effort → ℕ → ℕ → ℕ → Worker → Type 0
+HasTrials e number workers i w = let first = trial_at e number workers i in
+    let past = trial_at e number workers (i + 1) in first < past → ShowsTrials e first past w
+
+abbrev pub HaveTrials : Effort → ℕ → List Worker → Type 0
+HaveTrials e number ws = (i : ℕ) (w : Worker) → slice_get ws i ≡ Some w
+    → HasTrials e number (length ws) i w
+
+pub record HasReadMeans (b : Board) (v w : View) (m : Means) : Type 0 where
+  pub problem : IsGroundProblem b.problem
+  pub means : AreMeans b.problem v w m
+
+abbrev pub FirstReads : Board → List Worker → List Worker → Means → Type 0
+FirstReads b [] news m = ⊥
+FirstReads b (o ∷ os) [] m = ⊥
+FirstReads b (o ∷ os) (n ∷ ns) m = Stays b o.pass n.pass × (n ≡ with_pass n.pass o) × (ns ≡ os)
+    × HasReadMeans b o.pass.view n.pass.view m

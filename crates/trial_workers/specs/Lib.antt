@@ -1,0 +1,5 @@
+pub mod Parts
+pub mod Workers
+pub mod Rounds
+pub mod Crews
+pub mod Effort

@@ -1,0 +1,22 @@
+//! Crews of workers that solve at once over the shared table: rounds of sweeps over the states near the starts,
+//! and of trials.
+#![tactic(auto)]
+
+mod crew;
+mod desk;
+mod effort;
+mod meeting;
+mod parting;
+mod parts;
+mod rounds;
+mod solving;
+mod sweeping;
+mod trying;
+mod worker;
+
+pub use crew::{Crew, MOST_WORKERS};
+pub use effort::{Effort, Solved};
+pub use rounds::round;
+pub use solving::solve_words;
+pub use state_explorer::Explored;
+pub use worker::Worker;

@@ -1,0 +1,89 @@
+//! Rounds until the means of the starts' bounds are near each other.
+
+ghost use Rattle.std.specs.Prelude.{◌≡◌, ◌≤◌, ◌<◌, ◌+◌, ◌-◌, ◌⊎◌, ℕ};
+ghost use Rattle.trial_workers.specs.Crews.{IsCrewOf, FirstHas, IsListed, HaveStayed, HaveTrials};
+ghost use Rattle.trial_workers.specs.Crews.{FirstReads};
+ghost use Rattle.trial_workers.specs.Effort.{HaveRounds, IsWithinPlain, FirstHasSeen};
+
+use crate::crew::Crew;
+use crate::effort::{Effort, Solved};
+use crate::rounds::round;
+use crate::worker::Worker;
+use shelf_io::Gate;
+use start_means::{Means, read_means};
+use state_explorer::Explored;
+use std::thread::Threads;
+use word_table::Words;
+
+/// What the first of these workers reads. The starts are the first of the listed states.
+fn read_first(
+    words: &Words<'_>,
+    workers: &mut [Worker<'_>],
+    explored: &Explored,
+    effort: &Effort,
+) -> Means
+    requires crew { IsCrewOf words.now effort.now.depth workers.old }
+    requires explored { IsListed words.now.problem explored.now }
+    requires has { FirstHas explored.now.states workers.old }
+    ensures { FirstReads words.now workers.old workers.new result }
+{
+    read_means(words, &mut workers[0].pass)
+}
+
+/// What worker 0 reads.
+fn read(words: &Words<'_>, crew: &mut Crew<'_>, explored: &Explored, effort: &Effort) -> Means
+    requires crew { IsCrewOf words.now effort.now.depth crew.old }
+    requires explored { IsListed words.now.problem explored.now }
+    requires has { FirstHas explored.now.states crew.old }
+    ensures { FirstReads words.now crew.old crew.new result }
+{
+    read_first(words, crew.workers.as_mut_slice(), explored, effort)
+}
+
+/// Makes rounds until the means of the starts' bounds differ by at most the gap, or the most rounds are made.
+/// Before each round worker 0 reads them, and the last reading is the answer. It takes no memory.
+///
+/// Whatever the workers race for, worker 0 has afterwards seen for each state near the starts at least what as
+/// many rounds of plain iteration bring, as far as they fit the swept depth.
+pub fn solve_words<R: Threads + Sync, G: Gate>(
+    rt: &R,
+    words: &Words<'_>,
+    crew: &mut Crew<'_>,
+    explored: &Explored,
+    effort: &Effort,
+    gate: &G,
+) -> Solved
+    requires crew { IsCrewOf words.now effort.now.depth crew.old }
+    requires deep { 1 ≤ effort.now.depth }
+    requires explored { IsListed words.now.problem explored.now }
+    requires has { FirstHas explored.now.states crew.old }
+    ensures crew { IsCrewOf words.now effort.now.depth crew.new }
+    ensures stayed { HaveStayed words.now crew.old crew.new }
+    ensures end { (result.upper ≤ result.lower + effort.now.gap)
+        ⊎ (result.rounds ≡ effort.now.rounds) }
+    ensures most { result.rounds ≤ effort.now.rounds }
+    ensures trials { 0 < result.rounds → HaveTrials effort.now (result.rounds - 1) crew.new }
+    ensures rounds { HaveRounds words.now.problem explored.now.depth result.rounds crew.new }
+    ensures plain { IsWithinPlain words.now.problem explored.now.depth result }
+    ensures seen { FirstHasSeen words.now.problem result crew.new }
+{
+    let mut rounds = 0;
+    let mut means = read(words, crew, explored, effort);
+    while rounds < effort.rounds {
+        if means.are_within(effort.gap) {
+            return Solved {
+                rounds,
+                lower: means.lower,
+                upper: means.upper,
+            };
+        }
+        round(rt, words, crew, explored, rounds, effort, gate);
+        rounds += 1;
+        means = read(words, crew, explored, effort);
+    }
+    Solved {
+        rounds,
+        lower: means.lower,
+        upper: means.upper,
+    }
+}

@@ -1,0 +1,32 @@
+//! A worker's backups of its ids.
+
+ghost use Rattle.std.specs.Prelude.{◌≡◌, ◌<◌, ℕ};
+ghost use Rattle.word_view.specs.Views.{knows};
+ghost use Rattle.word_table.specs.Seen.{IsOf};
+ghost use Rattle.trial_workers.specs.Workers.{Stays, HasSwept};
+
+use bellman_backup::{Scratch, backup};
+use word_table::{Pass, Words};
+
+/// Backs up the ids from `first` up to below `past`, in falling order.
+pub(crate) fn sweep(
+    words: &Words<'_>,
+    pass: &mut Pass,
+    scratch: &mut Scratch<'_>,
+    first: u32,
+    past: u32,
+)
+    requires here { IsOf words.now pass.old }
+    requires right { 0 < pass.old.view.rights }
+    requires problem { scratch.old.problem ≡ words.now.problem }
+    requires known { (id : ℕ) → id < past → knows pass.old.view id }
+    ensures stays { Stays words.now pass.old pass.new }
+    ensures problem { scratch.new.problem ≡ scratch.old.problem }
+    ensures swept { HasSwept words.now.problem first past pass.old.view pass.new.view }
+{
+    let mut id = past;
+    while id > first {
+        id -= 1;
+        backup(words, pass, id, scratch);
+    }
+}
