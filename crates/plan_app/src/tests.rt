@@ -17,7 +17,7 @@ use std::thread::Threads;
 #[derive(Clone, Copy)]
 struct Setting<'a> {
     words: &'a [&'a str],
-    files: &'a [(&'a str, &'a str)],
+    files: &'a [(&'a str, &'a [u8])],
     failing: (u64, u64),
 }
 
@@ -28,8 +28,8 @@ fn run_on<R: Threads + Sync + Abort>(
     setting: &Setting<'_>,
 ) -> Result<(u8, MemorySink), AllocError> {
     let mut shelf = MemoryShelf::make(alloc)?;
-    for (name, text) in setting.files {
-        shelf.hold(name, text.as_bytes())?;
+    for (name, bytes) in setting.files {
+        shelf.hold(name, bytes)?;
     }
     shelf.fail_at(setting.failing.0)?;
     let mut input = MemorySource::make(alloc)?;
@@ -39,8 +39,8 @@ fn run_on<R: Threads + Sync + Abort>(
     let status = run(
         rt, alloc, words, &mut shelf, &mut input, &mut out, &FreeGate,
     );
-    for (name, text) in setting.files {
-        assert_eq!(rt; shelf.bytes_of(name), Some(text.as_bytes()));
+    for (name, bytes) in setting.files {
+        assert_eq!(rt; shelf.bytes_of(name), Some(*bytes));
     }
     Ok((status, out))
 }

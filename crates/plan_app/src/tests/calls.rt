@@ -37,10 +37,10 @@ fn failing_calls(rt: HostRuntime) -> Result<(), Fail> {
         let setting = Setting {
             words,
             files: &[
-                ("coin", COIN),
-                ("c", NAMED),
-                ("domain", TIRE_DOMAIN),
-                ("problem", TIRE_PROBLEM),
+                ("coin", COIN.as_bytes()),
+                ("c", NAMED.as_bytes()),
+                ("domain", TIRE_DOMAIN.as_bytes()),
+                ("problem", TIRE_PROBLEM.as_bytes()),
             ],
             failing,
         };

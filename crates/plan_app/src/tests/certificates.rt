@@ -16,7 +16,7 @@ fn check_coin<R: Threads + Sync + Abort>(
 ) -> Result<(), AllocError> {
     let setting = Setting {
         words: &["check", "coin", "--cert", "c"],
-        files: &[("coin", files.0), ("c", files.1)],
+        files: &[("coin", files.0.as_bytes()), ("c", files.1.as_bytes())],
         failing: (0, 0),
     };
     check_run(rt, alloc, &setting, wanted)
@@ -184,7 +184,7 @@ fn with_line(
     Ok(out)
 }
 
-/// A certificate without each of its lines in turn, with each of them twice, and cut behind each byte.
+/// A certificate without each of its lines in turn, and with each of them twice.
 #[test]
 fn spoiled_certificates(rt: HostRuntime) -> Result<(), Fail> {
     let lines = [
@@ -214,12 +214,6 @@ fn spoiled_certificates(rt: HostRuntime) -> Result<(), Fail> {
         let twice = with_line(rt.alloc(), &lines, place, 2)?;
         check_coin(&rt, rt.alloc(), (COIN, without.as_str()), (7, missing))?;
         check_coin(&rt, rt.alloc(), (COIN, twice.as_str()), (7, double))?;
-    }
-    for (end, _) in NUMBERED.char_indices() {
-        let front = &NUMBERED[..end];
-        let line = 1 + front.bytes().filter(|byte| *byte == b'\n').count();
-        let wanted = format!(in rt.alloc(); "not accepted 30 {line}\n")?;
-        check_coin(&rt, rt.alloc(), (COIN, front), (7, wanted.as_str()))?;
     }
     Ok(())
 }

@@ -63,15 +63,6 @@ const STARTS: Repeated<'static> = Repeated {
     after: ") (:goal (x0)) (:goal-reward 10))",
 };
 
-/// Costs in one effect, of 10^12 micro-units each.
-const COSTS: Repeated<'static> = Repeated {
-    before: "(define (domain d) (:predicates (p)) (:action pay :effect (and (p)",
-    piece: (" (decrease (reward) 1000000.00000", ")"),
-    between: "",
-    again: ("", ""),
-    after: "))) (define (problem p) (:domain d) (:goal (p)) (:goal-reward 10))",
-};
-
 /// Objects, and an action of three of them that is never open.
 const INSTANCES: Repeated<'static> = Repeated {
     before: "(define (domain d) (:predicates (p)) (:action a :parameters (?x ?y ?z) :precondition (or) :effect (p))) (define (problem p) (:domain d) (:objects",
@@ -93,7 +84,7 @@ const OBJECTS: Repeated<'static> = Repeated {
 #[test]
 fn limits(rt: HostRuntime) -> Result<(), Fail> {
     let alloc = rt.alloc();
-    let rows: [(&Repeated<'static>, u32, u32, u8, &str); 12] = [
+    let rows: [(&Repeated<'static>, u32, u32, u8, &str); 11] = [
         (
             &PARTS,
             8,
@@ -112,7 +103,6 @@ fn limits(rt: HostRuntime) -> Result<(), Fail> {
             "penalty 10.000000\natoms 6\n(x0)\n(x1)\n(x2)\n(x3)\n(x4)\n(x5)\nstarts 64\n",
         ),
         (&STARTS, 7, 7, 8, "limit 25 64\n"),
-        (&COSTS, 1, 0, 0, "penalty 10.000000\natoms 1\n"),
         (
             &INSTANCES,
             100,
@@ -130,7 +120,7 @@ fn limits(rt: HostRuntime) -> Result<(), Fail> {
         let long = repeated.text(alloc, first, second)?;
         let setting = Setting {
             words: &["ground", "long"],
-            files: &[("long", long.as_str())],
+            files: &[("long", long.as_str().as_bytes())],
             failing: (0, 0),
         };
         check_front(&rt, alloc, &setting, (status, text))?;
@@ -138,22 +128,28 @@ fn limits(rt: HostRuntime) -> Result<(), Fail> {
     Ok(())
 }
 
+/// The piece, so many times.
+fn repeated(alloc: Global, piece: &str, times: u32) -> Result<String, AllocError> {
+    let mut out = String::new(alloc);
+    for _ in 0..times {
+        out.push_str(piece)?;
+    }
+    Ok(out)
+}
+
 /// Denominators and costs of one effect.
 #[test]
 fn limits_of_effects(rt: HostRuntime) -> Result<(), Fail> {
     let alloc = rt.alloc();
     let nine = "(probabilistic 0.000000001 (a)) (probabilistic 0.000000001 (b))";
-    let more =
-        "(probabilistic 0.000000001 (a)) (probabilistic 0.000000001 (b)) (probabilistic 0.5 (c))";
-    let ten =
-        "(decrease (reward) 1000000) (decrease (reward) 1000000) (decrease (reward) 1000000) (decrease (reward) 1000000) (decrease (reward) 1000000) (decrease (reward) 1000000) (decrease (reward) 1000000) (decrease (reward) 1000000) (decrease (reward) 1000000) (decrease (reward) 1000000)";
-    let eleven =
-        "(decrease (reward) 1000000) (decrease (reward) 1000000) (decrease (reward) 1000000) (decrease (reward) 1000000) (decrease (reward) 1000000) (decrease (reward) 1000000) (decrease (reward) 1000000) (decrease (reward) 1000000) (decrease (reward) 1000000) (decrease (reward) 1000000) (decrease (reward) 1000000)";
+    let half = format!(in alloc; "{nine} (probabilistic 0.5 (c))")?;
+    let ten = repeated(alloc, "(decrease (reward) 1000000) ", 10)?;
+    let eleven = repeated(alloc, "(decrease (reward) 1000000) ", 11)?;
     let rows: [(&str, u8, &str); 4] = [
         (nine, 0, "penalty 10.000000\natoms 2\n"),
-        (more, 8, "limit 21 1000000000000000000\n"),
-        (ten, 0, "penalty 10.000000\natoms 0\n"),
-        (eleven, 8, "limit 27 10000000000000\n"),
+        (half.as_str(), 8, "limit 21 1000000000000000000\n"),
+        (ten.as_str(), 0, "penalty 10.000000\natoms 0\n"),
+        (eleven.as_str(), 8, "limit 27 10000000000000\n"),
     ];
     for (effect, status, text) in rows {
         let task = format!(in alloc;
@@ -161,7 +157,7 @@ fn limits_of_effects(rt: HostRuntime) -> Result<(), Fail> {
         )?;
         let setting = Setting {
             words: &["ground", "task"],
-            files: &[("task", task.as_str())],
+            files: &[("task", task.as_str().as_bytes())],
             failing: (0, 0),
         };
         check_front(&rt, alloc, &setting, (status, text))?;
@@ -173,7 +169,7 @@ fn limits_of_effects(rt: HostRuntime) -> Result<(), Fail> {
 #[test]
 fn long_texts(rt: HostRuntime) -> Result<(), Fail> {
     let alloc = rt.alloc();
-    let rows: [(usize, &[&str], u8, &str); 5] = [
+    let rows: [(u32, &[&str], u8, &str); 5] = [
         (1_048_577, &["ground", "long"], 8, "limit 28 1048576\n"),
         (1_048_576, &["ground", "long"], 6, "refused 12 1:1\n"),
         (
@@ -196,13 +192,10 @@ fn long_texts(rt: HostRuntime) -> Result<(), Fail> {
         ),
     ];
     for (length, words, status, text) in rows {
-        let mut long = String::new(alloc);
-        for _ in 0..length {
-            long.push_str(" ")?;
-        }
+        let long = repeated(alloc, " ", length)?;
         let setting = Setting {
             words,
-            files: &[("long", long.as_str()), ("bad", ")")],
+            files: &[("long", long.as_str().as_bytes()), ("bad", b")")],
             failing: (0, 0),
         };
         check_front(&rt, alloc, &setting, (status, text))?;

@@ -2,6 +2,7 @@
 
 use super::texts::{ACCEPTED, COIN, HAUL, NAMED, TIRE_DOMAIN, TIRE_PROBLEM, TWO, edited, joined};
 use super::{Setting, check_run};
+use ppddl_lex::tokens;
 use std::test::Fail;
 
 /// Words that ask for nothing, and forms of words that ask for the same.
@@ -59,7 +60,7 @@ fn words(rt: HostRuntime) -> Result<(), Fail> {
     for (words, status, text) in rows {
         let setting = Setting {
             words,
-            files: &[("coin", COIN), ("c", NAMED)],
+            files: &[("coin", COIN.as_bytes()), ("c", NAMED.as_bytes())],
             failing: (0, 0),
         };
         check_run(&rt, rt.alloc(), &setting, (status, text))?;
@@ -72,7 +73,7 @@ fn words(rt: HostRuntime) -> Result<(), Fail> {
 fn refused_coins(rt: HostRuntime) -> Result<(), Fail> {
     let deep =
         "(((((((((((((((((((((((((((((((((((((((((((((((((((((((((((((((((((((((((((((((((((((((((((((((((((";
-    let rows: [(&str, &str, &str); 8] = [
+    let rows: [(&str, &str, &str); 12] = [
         (
             "0.5 (done)",
             "0.6 (done) 0.5 (not (done))",
@@ -96,12 +97,17 @@ fn refused_coins(rt: HostRuntime) -> Result<(), Fail> {
         // 101 open parentheses.
         ("(:goal (done))", deep, "refused 3 1:9\n"),
         ("(:goal-reward 10)", "", "refused 18 1:6\n"),
+        // A byte that is not allowed; a goal without a condition; what is not in the language; another domain.
+        ("(:init)", "(:init) \x7f", "refused 1 1:8\n"),
+        ("(:goal (done))", "(:goal)", "refused 4 1:9\n"),
+        ("maximize", "minimize", "refused 10 1:11\n"),
+        ("(:domain coin)", "(:domain dice)", "refused 15 1:7\n"),
     ];
     for (old, new, text) in rows {
         let coin = edited(rt.alloc(), COIN, &[(old, new)])?;
         let setting = Setting {
             words: &["ground", "coin"],
-            files: &[("coin", coin.as_str())],
+            files: &[("coin", coin.as_str().as_bytes())],
             failing: (0, 0),
         };
         check_run(&rt, rt.alloc(), &setting, (6, text))?;
@@ -109,41 +115,35 @@ fn refused_coins(rt: HostRuntime) -> Result<(), Fail> {
     Ok(())
 }
 
-/// The coin cut behind each of its tokens, and before the first one.
+/// The coin cut behind each of its tokens but the last. The domain ends with its byte 152, on line 5.
 #[test]
 fn cut_coins(rt: HostRuntime) -> Result<(), Fail> {
+    let alloc = rt.alloc();
     let bytes = COIN.as_bytes();
-    for (end, _) in COIN.char_indices() {
-        let front = &bytes[..end];
-        let is_token = match (front.last(), bytes[end]) {
-            (None, _) => true,
-            (Some(b'(' | b')'), _) => true,
-            (Some(b' ' | b'\n'), _) => false,
-            (Some(_), next) => next == b' ' || next == b'\n' || next == b'(' || next == b')',
+    let Ok(found) = tokens(alloc, bytes) else {
+        assert!(rt; false);
+        return Ok(());
+    };
+    for token in found.as_slice() {
+        let Some(front) = bytes.get(..token.to as usize) else {
+            assert!(rt; false);
+            return Ok(());
         };
-        if !is_token {
-            continue;
+        if front.len() == 270 {
+            return Ok(());
         }
-        let opened = front.iter().filter(|byte| **byte == b'(').count();
-        let closed = front.iter().filter(|byte| **byte == b')').count();
-        let line = 1 + front.iter().filter(|byte| **byte == b'\n').count();
-        let code = match (end, opened == closed) {
-            (0, _) => 12,
-            (_, true) => 13,
-            (_, false) => 2,
-        };
-        let wanted = format!(in rt.alloc(); "refused {code} 1:{line}\n")?;
-        // Behind the last token nothing is missing.
-        if opened == closed && line == 11 {
-            continue;
-        }
+        let code = if front.len() == 152 { 13 } else { 2 };
+        let line = token.line;
+        let wanted = format!(in alloc; "refused {code} 1:{line}\n")?;
         let setting = Setting {
             words: &["ground", "coin"],
-            files: &[("coin", &COIN[..end])],
+            files: &[("coin", front)],
             failing: (0, 0),
         };
-        check_run(&rt, rt.alloc(), &setting, (6, wanted.as_str()))?;
+        check_run(&rt, alloc, &setting, (6, wanted.as_str()))?;
     }
+    // A text has tokens, and the last of them was seen.
+    assert!(rt; false);
     Ok(())
 }
 
@@ -187,6 +187,14 @@ fn ground_problems(rt: HostRuntime) -> Result<(), Fail> {
     )?;
     let tire = joined(alloc, TIRE_DOMAIN, TIRE_PROBLEM)?;
     let short = edited(alloc, tire.as_str(), &[("(road l1 l2)", "(road l1)")])?;
+    let typed = edited(
+        alloc,
+        tire.as_str(),
+        &[
+            ("l3 - location", "l3 - location car"),
+            ("(vehicle-at l1)", "(vehicle-at car)"),
+        ],
+    )?;
     let unknown = edited(alloc, TIRE_PROBLEM, &[("(road l1 l2)", "(road l1 l9)")])?;
     let free = edited(alloc, HAUL, &[("(= (length a c) 4)", "(= (length a c) 0)")])?;
     let twice = edited(
@@ -197,22 +205,23 @@ fn ground_problems(rt: HostRuntime) -> Result<(), Fail> {
             "(= (length a c) 4) (= (length a b) 2)",
         )],
     )?;
-    let files = [
-        ("two", TWO),
-        ("coin", COIN),
-        ("waiting", waiting.as_str()),
-        ("tire", tire.as_str()),
-        ("domain", TIRE_DOMAIN),
-        ("problem", TIRE_PROBLEM),
-        ("short", short.as_str()),
-        ("unknown", unknown.as_str()),
-        ("free", free.as_str()),
-        ("twice", twice.as_str()),
-        ("blank", "; nothing\n\n"),
-        ("empty", ""),
-        ("c", NAMED),
+    let files: [(&str, &[u8]); 14] = [
+        ("two", TWO.as_bytes()),
+        ("coin", COIN.as_bytes()),
+        ("waiting", waiting.as_str().as_bytes()),
+        ("tire", tire.as_str().as_bytes()),
+        ("domain", TIRE_DOMAIN.as_bytes()),
+        ("problem", TIRE_PROBLEM.as_bytes()),
+        ("short", short.as_str().as_bytes()),
+        ("typed", typed.as_str().as_bytes()),
+        ("unknown", unknown.as_str().as_bytes()),
+        ("free", free.as_str().as_bytes()),
+        ("twice", twice.as_str().as_bytes()),
+        ("blank", b"; nothing\n\n"),
+        ("empty", b""),
+        ("c", NAMED.as_bytes()),
     ];
-    let rows: [(&[&str], u8, &str); 19] = [
+    let rows: [(&[&str], u8, &str); 20] = [
         (&["ground", "two"], 0, TWO_REPORT),
         (
             &["ground", "waiting", "--step-cost", "1"],
@@ -233,6 +242,7 @@ fn ground_problems(rt: HostRuntime) -> Result<(), Fail> {
             "refused 18 2:1\n",
         ),
         (&["ground", "short"], 6, "refused 6 1:18\n"),
+        (&["ground", "typed"], 6, "refused 7 1:18\n"),
         (
             &["ground", "domain", "--problem", "unknown"],
             6,
