@@ -1,0 +1,4 @@
+pub mod Folds
+pub mod Domains
+pub mod Problems
+pub mod Laws
