@@ -1,10 +1,8 @@
 -- The sums over the starts, one start after another.
-use Rattle.std.proofs.Common.{◌≡◌, ℕ, ◌+◌, ◌*◌, ◌/◌, ◌<◌, ◌≤◌, ◌^◌, ◌⊎◌, inl, inr, Bool, true, false, IsTrue, nat_eq, Some, List, [], ◌∷◌, length, take, get_or, refl, sym, ap, ◌∙◌, subst, arith}
-use Rattle.std.specs.Prelude.{Contains}
-use Rattle.std.specs.List.{slice_get}
+use Rattle.std.proofs.Common.{◌≡◌, ℕ, ◌+◌, ◌*◌, ◌<◌, ◌≤◌, ◌^◌, inl, inr, Bool, true, false, IsTrue, nat_eq, List, length, take, get_or, sym, ap, ◌∙◌, subst, arith}
 use Rattle.std.proofs.Math.Nat.{mul-le-mul_left, mul-le-mul_right, mul_comm, div-le_of_le-mul}
 use Rattle.std.proofs.lemmas.Bool.{cases_Bool, eq-eqb}
-use Rattle.fixed_round.specs.Words.{value_of, word_of}
+use Rattle.fixed_round.specs.Words.{value_of}
 use Rattle.weighted.specs.Mean.{total}
 use Rattle.weighted.proofs.Totals.{total-le, total-map}
 use Rattle.decision_process.specs.Process.{at_starts}
@@ -18,18 +16,15 @@ use Rattle.ground_model.specs.Steps.{ground_process, ground_starts, start_of}
 use Rattle.ground_model.specs.Invariant.{IsGroundProblem}
 use Rattle.bound_core.specs.Numbers.{first_word, quit_word}
 use Rattle.word_view.specs.declared.view.View.{View}
-use Rattle.word_view.specs.Views.{number, knows, has_state, seen_lower, seen_upper, noted_lower, noted_upper}
+use Rattle.word_view.specs.Views.{number, has_state, seen_lower, seen_upper, noted_upper}
 use Rattle.word_view.specs.Laws.{IsLater}
 use Rattle.word_view.specs.Steps.{with_count}
 use Rattle.word_view.proofs.Lists.{is_first}
-use Rattle.word_view.proofs.Seen.{seen_lower_is_greatest, seen_upper_is_least, raised_is_seen, sunk_is_seen, more_is_later, greatest_over, least_under}
+use Rattle.word_view.proofs.Seen.{seen_lower_is_greatest, seen_upper_is_least, raised_is_seen, sunk_is_seen, greatest_over, least_under}
 use Rattle.word_rule.specs.Told.{HasOneEach}
-use Rattle.word_table.specs.Seen.{Board, Knowledge, knowledge, IsOf}
 use Rattle.bound_words.specs.declared.bounds.Interval.{Interval}
 use Rattle.bound_words.specs.Intervals.{with_interval, word_in, TellsInterval}
-use Rattle.bellman_backup.specs.Backups.{Keeps}
 use Rattle.bellman_backup.proofs.NextRead.{first_at_goal, first_off_goal, seen_within_first}
-use Rattle.bellman_backup.proofs.Keeping.{keeps_again}
 use Rattle.start_means.specs.declared.bounds.Bounds.{Bounds}
 use Rattle.start_means.specs.declared.sums.Sums.{Sums}
 use Rattle.start_means.specs.Means.{seen_value, HasStarts, lower_mean, upper_mean}

@@ -3,7 +3,7 @@
 --                                seen of s
 --     over f xs                  the sum of weight times f over these starts
 --     AreSums g v w xs sums      sums over these starts, no wider than those of v, and no narrower than those of w
-use Rattle.std.specs.Prelude.{◌≡◌, ℕ, ◌+◌, ◌*◌, ◌≤◌, ◌^◌, true, false, List}
+use Rattle.std.specs.Prelude.{◌≡◌, ℕ, ◌*◌, ◌≤◌, true, List}
 use Rattle.fixed_round.specs.Words.{value_of}
 use Rattle.weighted.specs.Mean.{total}
 use Rattle.ground_model.specs.declared.start.Start.{Start}

@@ -1,5 +1,5 @@
 -- A round of a crew is a round of plain rounded iteration.
-use Rattle.std.proofs.Common.{◌≡◌, ℕ, zero, suc, ◌+◌, ◌<◌, ◌≤◌, Bool, true, false, cond, IsTrue, Option, Some, None, List, [], ◌∷◌, ◌++◌, length, take, map, get_or, refl, sym, ap, ◌∙◌, subst, arith, inl, inr}
+use Rattle.std.proofs.Common.{◌≡◌, ℕ, zero, suc, ◌+◌, ◌<◌, ◌≤◌, cond, Option, Some, None, List, [], ◌∷◌, ◌++◌, length, take, map, refl, sym, ap, ◌∙◌, subst, arith, inl, inr}
 use Rattle.std.specs.Prelude.{Contains}
 use Rattle.std.specs.List.{slice_get}
 use Rattle.std.proofs.lemmas.Bool.{cases_Bool}
@@ -16,19 +16,18 @@ use Rattle.ground_model.specs.Ground.{Ground}
 use Rattle.ground_model.specs.Steps.{ground_process, ground_starts, start_of}
 use Rattle.bound_core.specs.Numbers.{first_word}
 use Rattle.word_view.specs.declared.view.View.{View}
-use Rattle.word_view.specs.Views.{knows, has_state, seen_lower, seen_upper}
+use Rattle.word_view.specs.Views.{knows, seen_lower, seen_upper}
 use Rattle.word_view.specs.Laws.{HasMore}
 use Rattle.word_view.proofs.Seen.{more_is_later}
-use Rattle.word_table.specs.Seen.{Board, Knowledge, IsOf}
+use Rattle.word_table.specs.Seen.{Board, IsOf}
 use Rattle.state_explorer.specs.declared.explored.Explored.{Explored}
-use Rattle.state_explorer.specs.Explored.{IsExplored}
 use Rattle.bellman_backup.specs.Backups.{Narrows}
 use Rattle.bellman_backup.proofs.NextRead.{first_at_goal, first_off_goal, seen_within_first}
 use Rattle.start_means.specs.Means.{HasStarts, seen_value}
 use Rattle.trial_workers.specs.declared.parts.Division.{Division}
 use Rattle.trial_workers.specs.declared.worker.Worker.{Worker}
-use Rattle.trial_workers.specs.Workers.{Stays, HasListed}
-use Rattle.trial_workers.specs.Crews.{FirstHas, IsListed, HaveStayed}
+use Rattle.trial_workers.specs.Workers.{HasListed}
+use Rattle.trial_workers.specs.Crews.{FirstHas, IsListed}
 use Rattle.trial_workers.specs.Effort.{HasRoundsOf, HaveRounds}
 use Rattle.trial_workers.proofs.Passes.{seen_value_falls}
 use Rattle.trial_workers.proofs.Rounding.{KnowsAll, FirstNarrows}

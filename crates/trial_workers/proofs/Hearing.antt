@@ -1,5 +1,5 @@
 -- Meetings, one worker after another.
-use Rattle.std.proofs.Common.{◌≡◌, ℕ, zero, suc, ◌+◌, ◌<◌, ◌≤◌, List, [], ◌∷◌, length, get_or, slice_set, All, refl, sym, ap, ◌∙◌, subst, arith}
+use Rattle.std.proofs.Common.{◌≡◌, ℕ, zero, suc, ◌+◌, ◌<◌, ◌≤◌, List, [], ◌∷◌, length, get_or, slice_set, refl, sym, ap, ◌∙◌, subst, arith}
 use Rattle.std.proofs.lemmas.List.{length-set, get_or-set_same, get_or-set_other, set-get_or}
 use mathlib.Core.Logic.{dite}
 use native.Mathlib.Decide.{ℕ_discrete}
@@ -9,9 +9,8 @@ use Rattle.word_table.specs.Seen.{Board, Knowledge, IsOf}
 use Rattle.bellman_backup.specs.Races.{has_more_again}
 use Rattle.trial_workers.specs.declared.parts.Division.{Division}
 use Rattle.trial_workers.specs.declared.worker.Worker.{Worker}
-use Rattle.trial_workers.specs.Parts.{with_part}
 use Rattle.trial_workers.specs.Workers.{Stays}
-use Rattle.trial_workers.specs.Rounds.{with_pass, IsPrepared, ArePrepared, AllPrepared, HasHeard, HaveMet}
+use Rattle.trial_workers.specs.Rounds.{with_pass, IsPrepared, AllPrepared, HaveMet}
 
 pub any_default : {X : Type 0} (l : List X) (i : ℕ) (d e : X) → i < length l → get_or l i d ≡ get_or l i e
 any_default [] i d e below = absurd (omega arith)

@@ -1,13 +1,9 @@
 -- The loop of rounds, with a reading of the means behind each.
-use Rattle.std.proofs.Common.{◌≡◌, ℕ, suc, ◌+◌, ◌-◌, ◌<◌, ◌≤◌, Option, List, [], ◌∷◌, length, get_or, slice_set, All, refl, sym, ap, ◌∙◌, subst, arith}
-use Rattle.std.specs.List.{AllZip}
-use Rattle.decision_process.specs.Rounded.{plain_low, plain_high}
-use Rattle.sweep_levels.specs.Sweeps.{rounds_at}
+use Rattle.std.proofs.Common.{◌≡◌, ℕ, ◌+◌, ◌-◌, ◌<◌, Option, List, [], ◌∷◌, length, get_or, slice_set, refl, subst, arith}
 use Rattle.sweep_levels.proofs.Rounds.{means_have_rounds}
 use Rattle.ground_model.specs.Packed.{State}
 use Rattle.ground_model.specs.Ground.{Ground}
 use Rattle.ground_model.specs.Steps.{ground_process, ground_starts}
-use Rattle.word_view.specs.declared.view.View.{View}
 use Rattle.word_view.specs.Views.{seen_lower}
 use Rattle.word_view.proofs.Seen.{has_state_more}
 use Rattle.word_table.specs.Seen.{Board, Knowledge}

@@ -1,6 +1,5 @@
 -- How a crew is made.
-use Rattle.std.proofs.Common.{◌≡◌, ℕ, zero, suc, ◌+◌, ◌-◌, ◌<◌, ◌≤◌, Option, Some, None, List, [], ◌∷◌, ◌++◌, length, get_or, All, refl, sym, ap, ◌∙◌, subst, arith}
-use Rattle.std.specs.List.{slice_get}
+use Rattle.std.proofs.Common.{◌≡◌, ℕ, zero, suc, ◌+◌, ◌-◌, ◌<◌, ◌≤◌, Some, None, List, [], ◌∷◌, ◌++◌, length, All, refl, sym, ap, ◌∙◌, subst, arith}
 use Rattle.std.proofs.lemmas.List.{length-append}
 use Rattle.ground_model.specs.Packed.{State}
 use Rattle.ground_model.specs.Ground.{Ground}
@@ -13,9 +12,9 @@ use Rattle.brtdp_trial.specs.declared.run.Run.{Run}
 use Rattle.brtdp_trial.specs.Paths.{new_path}
 use Rattle.bellman_backup.specs.Scratches.{new_scratch}
 use Rattle.trial_workers.specs.declared.worker.Worker.{Worker}
-use Rattle.trial_workers.specs.Workers.{HasListed, IsWorkerOf, IsRun}
+use Rattle.trial_workers.specs.Workers.{HasListed, IsWorkerOf}
 use Rattle.trial_workers.specs.declared.desk.Desk.{Desk}
-use Rattle.trial_workers.specs.Crews.{IsCrewOf, FirstHas, IsNewCrew, IsDesk, AreDesks, new_worker, one_right}
+use Rattle.trial_workers.specs.Crews.{IsCrewOf, FirstHas, IsNewCrew, IsDesk, AreDesks, new_worker}
 
 none_is_not_run : (r : Run) → None ≡ Some r → ⊥
 none_is_not_run r same = cc

@@ -15,7 +15,7 @@ use Rattle.word_view.proofs.Noting.{noted_is_more, united_is_more}
 use Rattle.word_table.specs.Seen.{Board, Knowledge, knowledge, IsOf, with_rights}
 use Rattle.bellman_backup.specs.Scratches.{ScratchView}
 use Rattle.bellman_backup.specs.Races.{IsReady, Races, has_all, has_more_again}
-use Rattle.bellman_backup.specs.Backups.{Keeps, IsBackedUp, Narrows}
+use Rattle.bellman_backup.specs.Backups.{Keeps, Narrows}
 use Rattle.start_means.specs.Means.{seen_value}
 use Rattle.trial_workers.specs.Workers.{Stays}
 

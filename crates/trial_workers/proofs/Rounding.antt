@@ -6,19 +6,17 @@ use Rattle.std.proofs.lemmas.Option.{slice_get_within, get_or_from_slice_get}
 use Rattle.std.proofs.Math.Nat.{mul-div_cancel_left, div-zero, zero-div, div-le_of_le-mul, mul-le-mul_right}
 use mathlib.Core.Logic.{dite}
 use native.Mathlib.Decide.{dec_le}
-use Rattle.ground_model.specs.Ground.{Ground}
 use Rattle.word_view.specs.declared.view.View.{View}
 use Rattle.word_view.specs.Views.{knows}
 use Rattle.word_view.specs.Laws.{HasMore}
-use Rattle.word_table.specs.Seen.{Board, Knowledge, IsOf}
+use Rattle.word_table.specs.Seen.{Board, Knowledge}
 use Rattle.brtdp_trial.specs.declared.turn.Turn.{Turn}
 use Rattle.bellman_backup.specs.Backups.{Narrows}
-use Rattle.bellman_backup.specs.Races.{has_all}
 use Rattle.trial_workers.specs.declared.effort.Effort.{Effort}
 use Rattle.trial_workers.specs.declared.parts.Division.{Division}
 use Rattle.trial_workers.specs.declared.worker.Worker.{Worker}
 use Rattle.trial_workers.specs.Parts.{share_of, with_part, IsDivision}
-use Rattle.trial_workers.specs.Workers.{Stays, HasSwept, IsFit, IsWorkerOf, ShowsTrials, CanTakePart, HasTakenPart}
+use Rattle.trial_workers.specs.Workers.{Stays, IsFit, IsWorkerOf, ShowsTrials, CanTakePart, HasTakenPart}
 use Rattle.trial_workers.specs.Rounds.{CanMeet, with_pass, IsPrepared, ArePrepared, AllPrepared, HasHeard, HaveMet}
 use Rattle.trial_workers.specs.Crews.{IsCrewOf, HaveStayed, HasTrials, HaveTrials}
 use Rattle.trial_workers.proofs.Passes.{stays_all, stays_again, narrows_wider}

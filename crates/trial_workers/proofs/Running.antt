@@ -1,8 +1,7 @@
 -- A worker's trials, one after another.
 use Rattle.std.proofs.Common.{◌≡◌, ℕ, ◌+◌, ◌<◌, ◌≤◌, ◌==◌, ◌&&◌, Bool, true, false, cond, Option, Some, None, refl, sym, ap, ◌∙◌, subst, arith, inl, inr}
 use Rattle.std.proofs.lemmas.Bool.{cases_Bool, cases_lt, eq-eqb, eqb-true, and_from, and_parts}
-use Rattle.word_view.specs.Views.{knows}
-use Rattle.word_table.specs.Seen.{Board, Knowledge, IsOf}
+use Rattle.word_table.specs.Seen.{Board, Knowledge}
 use Rattle.brtdp_trial.specs.declared.run.Run.{Run}
 use Rattle.brtdp_trial.specs.Runs.{run_alone, goes_on, next_run}
 use Rattle.brtdp_trial.specs.Paths.{PathView}
@@ -10,7 +9,7 @@ use Rattle.bellman_backup.specs.Scratches.{ScratchView}
 use Rattle.bellman_backup.specs.Races.{IsReady}
 use Rattle.trial_workers.specs.declared.effort.Effort.{Effort}
 use Rattle.trial_workers.specs.declared.worker.Worker.{Worker}
-use Rattle.trial_workers.specs.Workers.{Stays, IsRun, IsRunOf, IsFit, IsWorkerOf, ShowsTrials, HasTurnsKnown, CanTry, HasTried}
+use Rattle.trial_workers.specs.Workers.{Stays, IsRun, IsRunOf, ShowsTrials, HasTurnsKnown, CanTry, HasTried}
 use Rattle.trial_workers.proofs.Passes.{stays_all, stays_again}
 
 -- ---- runs

@@ -1,8 +1,8 @@
 -- A whole round of a crew.
-use Rattle.std.proofs.Common.{◌≡◌, ℕ, ◌+◌, ◌-◌, ◌*◌, ◌<◌, ◌≤◌, ◌^◌, List, [], ◌∷◌, length, refl, sym, ap, ◌∙◌, subst, arith}
+use Rattle.std.proofs.Common.{◌≡◌, ℕ, ◌+◌, ◌-◌, ◌*◌, ◌<◌, ◌≤◌, ◌^◌, List, ◌∷◌, length, refl, subst, arith}
 use Rattle.std.specs.List.{AllZip}
-use Rattle.std.proofs.Math.Nat.{mul-le-mul_left, mul-le-mul_right}
-use Rattle.word_table.specs.Seen.{Board, Knowledge, IsOf}
+use Rattle.std.proofs.Math.Nat.{mul-le-mul_right}
+use Rattle.word_table.specs.Seen.{Board, IsOf}
 use Rattle.state_explorer.specs.declared.explored.Explored.{Explored}
 use Rattle.trial_workers.specs.declared.effort.Effort.{Effort}
 use Rattle.trial_workers.specs.declared.parts.Division.{Division}
@@ -12,7 +12,7 @@ use Rattle.trial_workers.specs.Workers.{HasTakenPart}
 use Rattle.trial_workers.specs.Rounds.{AllPrepared, HaveMet}
 use Rattle.trial_workers.specs.Crews.{IsCrewOf, FirstHas, IsListed}
 use Rattle.trial_workers.specs.Effort.{HaveRounds}
-use Rattle.trial_workers.proofs.Rounding.{KnowsAll, IsRound, RoundDone, round_is_done}
+use Rattle.trial_workers.proofs.Rounding.{KnowsAll, RoundDone, round_is_done}
 use Rattle.trial_workers.proofs.Counting.{knows_all, crew_goes_on}
 
 abbrev pub division_of : Effort → Explored → ℕ → List Worker → Division

@@ -9,7 +9,7 @@
 --     HaveTrials e number ws     each worker that has trials in the round of this number shows them
 --     HasReadMeans b v w m       the means are between what v and w have seen, over a problem within its limits
 --     FirstReads b os ns m       worker 0 has read the means of the starts' bounds; nothing else is changed
-use Rattle.std.specs.Prelude.{◌≡◌, ℕ, ◌+◌, ◌*◌, ◌<◌, ◌≤◌, Some, None, List, [], ◌∷◌, length, All}
+use Rattle.std.specs.Prelude.{◌≡◌, ℕ, ◌+◌, ◌*◌, ◌<◌, ◌≤◌, Some, List, [], ◌∷◌, length, All}
 use Rattle.std.specs.List.{slice_get, AllZip}
 use Rattle.ground_model.specs.Packed.{State}
 use Rattle.ground_model.specs.Ground.{Ground}

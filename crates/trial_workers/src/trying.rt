@@ -28,7 +28,8 @@ fn race<'p>(
     ensures stays { Stays words.now pass.old pass.new }
     ensures problem { result.problem ≡ words.now.problem }
     ensures room { path.new.room ≡ path.old.room }
-    ensures run { path.new.run ≡ Some (next_run path.old.run number effort.now.seed effort.now.tau) }
+    ensures run { let e = effort.now
+        in path.new.run ≡ Some (next_run path.old.run number e.seed e.tau) }
     ensures known { HasTurnsKnown pass.new.view path.new }
 {
     // While the bounds have the pass, a copy without rights stands in its place.

@@ -1,4 +1,4 @@
-use Rattle.std.proofs.Common.{◌≡◌, ◌<◌, Some, length, refl, ap, ◌∙◌, subst, sym, rules}
+use Rattle.std.proofs.Common.{◌≡◌, ◌<◌, Some, length, refl, subst, rules}
 use Rattle.std.specs.List.{slice_get}
 use Rattle.std.proofs.lemmas.Option.{slice_get_read}
 use Rattle.word_view.proofs.Seen.{more_is_later}

@@ -1,4 +1,4 @@
-use Rattle.std.proofs.Common.{◌≡◌, ◌≤◌, ◌/◌, refl, sym, ap, ◌∙◌, subst, rules}
+use Rattle.std.proofs.Common.{◌≡◌, ◌≤◌, ◌/◌, sym, ap, ◌∙◌, subst, rules}
 use Rattle.std.specs.Int.{div_ceil}
 use Rattle.word_table.specs.Seen.{Knowledge}
 use Rattle.word_view.proofs.Seen.{more_is_later}

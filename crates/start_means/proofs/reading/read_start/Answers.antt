@@ -1,5 +1,4 @@
-use Rattle.std.proofs.Common.{refl, rules, sym, ◌∙◌, subst}
-use Rattle.word_view.specs.declared.view.View.{View}
+use Rattle.std.proofs.Common.{refl, rules, sym, subst}
 use Rattle.word_table.specs.Seen.{Knowledge}
 use Rattle.bellman_backup.proofs.Keeping.{keeps_interval}
 use Rattle.start_means.specs.Sums.{IsReadOf}

@@ -1,7 +1,5 @@
-use Rattle.std.proofs.Common.{◌≡◌, ◌<◌, ◌≤◌, List, length, get_or, slice_index_or, rules, sym, ap, ◌∙◌, subst, arith}
-use Rattle.word_table.specs.Seen.{Knowledge}
+use Rattle.std.proofs.Common.{◌<◌, ◌≤◌, List, length, ap, arith}
 use Rattle.trial_workers.specs.declared.worker.Worker.{Worker}
-use Rattle.trial_workers.specs.Workers.{Stays}
 use Rattle.trial_workers.proofs.Hearing.{one_heard, gathering_ends}
 use Rattle.trial_workers.proofs.meeting.meet_all.Goals as goal
 

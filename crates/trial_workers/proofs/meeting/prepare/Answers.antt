@@ -1,4 +1,4 @@
-use Rattle.std.proofs.Common.{◌≡◌, ◌<◌, ◌+◌, length, get_or, slice_set, rules, sym, subst, arith}
+use Rattle.std.proofs.Common.{◌<◌, ◌+◌, length, get_or, slice_set, sym, subst, arith}
 use Rattle.trial_workers.proofs.Hearing.{Preparing, one_prepared}
 use Rattle.trial_workers.proofs.meeting.prepare.Goals as goal
 

@@ -1,6 +1,5 @@
-use Rattle.std.proofs.Common.{rules, length, get_or, sym, subst, arith}
+use Rattle.std.proofs.Common.{rules, get_or, subst}
 use denote.Param.Send.{sendable}
-use Rattle.trial_workers.specs.declared.worker.Worker.{Worker}
 use Rattle.trial_workers.specs.Workers.{HasTakenPart}
 use Rattle.trial_workers.proofs.Rounding.{zip_from}
 use Rattle.trial_workers.proofs.effort.Effort.TheSendSync as effort_crosses

@@ -1,4 +1,4 @@
-use Rattle.std.proofs.Common.{◌≡◌, sym, ap, ◌∙◌}
+use Rattle.std.proofs.Common.{◌∙◌}
 use Rattle.trial_workers.proofs.Passes.{same_rights, own_is_ready, raced_stays}
 use Rattle.trial_workers.proofs.trying.race.Goals as goal
 

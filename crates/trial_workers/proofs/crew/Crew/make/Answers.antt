@@ -1,4 +1,4 @@
-use Rattle.std.proofs.Common.{◌≡◌, ◌+◌, ◌<◌, ◌++◌, ◌∷◌, [], rules, sym, subst, ◌∙◌, arith}
+use Rattle.std.proofs.Common.{◌≡◌, ◌+◌, rules, sym, subst, arith}
 use Rattle.trial_workers.specs.Crews.{IsNewCrew}
 use Rattle.trial_workers.proofs.Making.{Seating, one_seated, new_is_crew, new_has}
 use Rattle.trial_workers.proofs.crew.Crew.make.Goals as goal
