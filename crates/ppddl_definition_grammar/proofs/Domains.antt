@@ -1,16 +1,13 @@
 -- Domains: what is read is what is spelled.
 --     section-cases      what holds of a flag that may stand
 use Rattle.std.proofs.Common.{◌≡◌, ℕ, Bool, true, false, not, ◌&&◌, cond, List, ◌∷◌, [], ◌++◌, Option, Some, None, is_some, Result, Ok, Err, refl, sym, ap, subst, ◌∙◌}
-use Rattle.std.specs.List.{list_any}
 use Rattle.plain_list.specs.Results.{◌>>=◌}
 use Rattle.plain_list.proofs.Results.{bind_ok, ok_is, test_fails}
 use Rattle.ppddl_lex.specs.declared.keywords.TheConstants.{ACTION_FLAG, PREDICATES_FLAG, REQUIREMENTS_FLAG}
 use Rattle.ppddl_lex.specs.Words.{is_flag}
 use Rattle.ppddl_model.specs.declared.refusal.TextCode.{TextCode}
 use Rattle.ppddl_model.specs.declared.refusal.TextCode.TheVariants.{Expected, Unsupported, Twice}
-use Rattle.ppddl_model.specs.declared.tree.Action.{Action}
-use Rattle.ppddl_model.specs.declared.tree.Domain.{Domain}
-use Rattle.ppddl_names.specs.Declarations.{Declared, nothing, with_types, with_objects}
+use Rattle.ppddl_names.specs.Declarations.{Declared, nothing, with_objects}
 use Rattle.token_cursor.specs.declared.place.Place.{Place}
 use Rattle.token_cursor.specs.Ahead.{same}
 use Rattle.token_cursor.specs.Forms.{Form, Forms, lone, group, none, more}
@@ -30,14 +27,12 @@ use Rattle.ppddl_domains.specs.Domains.{is_problem_flag, section_of, has_section
 use Rattle.ppddl_grammar.specs.Words.{headed}
 use Rattle.ppddl_grammar.proofs.Parts.{same_word, branch, giving_ok}
 use Rattle.ppddl_lists.proofs.Objects.{objects_derived, objects_accepted}
-use Rattle.ppddl_section_fits.specs.Fitting.{with_predicates, with_functions}
 use Rattle.ppddl_section_grammar.proofs.Actions.{action-derived, action-accepted}
 use Rattle.ppddl_section_grammar.proofs.Declarations.{predicates-derived, predicates-accepted}
 use Rattle.ppddl_section_grammar.proofs.Functions.{functions-derived, functions-accepted}
 use Rattle.ppddl_section_grammar.proofs.Types.{types-derived, types-accepted}
 use Rattle.ppddl_definition_grammar.specs.Domains as by
 use Rattle.ppddl_definition_grammar.specs.Domains.{IsSection, IsDomain}
-use Rattle.ppddl_definition_grammar.specs.Folds.{Fold}
 use Rattle.ppddl_definition_grammar.specs.Laws.{DomainIsDerived, DomainIsAccepted}
 use Rattle.ppddl_definition_grammar.proofs.Folds.{each-derived, each-accepted, flags-derived, flags-accepted}
 

@@ -1,5 +1,5 @@
 -- Forms one behind the other: what is read is what is spelled.
-use Rattle.std.proofs.Common.{◌≡◌, ℕ, true, List, Result, Ok, refl, sym, ap, subst, ◌∙◌}
+use Rattle.std.proofs.Common.{◌≡◌, Result, Ok, refl, ap, subst, ◌∙◌}
 use Rattle.plain_list.specs.Results.{◌>>=◌}
 use Rattle.plain_list.proofs.Results.{bind_ok, ok_is, test_passes}
 use Rattle.ppddl_lex.specs.Words.{is_flag}

@@ -1,12 +1,12 @@
 -- Problems: what is read is what is spelled.
 --     section-cases      what holds of a flag that may stand
-use Rattle.std.proofs.Common.{◌≡◌, ℕ, Bool, true, false, not, ◌&&◌, cond, List, [], Option, Some, None, is_some, Result, Ok, Err, refl, sym, ap, subst, ◌∙◌}
+use Rattle.std.proofs.Common.{◌≡◌, ℕ, Bool, true, false, not, ◌&&◌, cond, List, Option, Some, None, is_some, Result, Ok, Err, refl, sym, ap, subst, ◌∙◌}
 use Rattle.plain_list.specs.Results.{◌>>=◌}
 use Rattle.plain_list.proofs.Results.{bind_ok, ok_is, test_passes, test_fails}
 use Rattle.ppddl_lex.specs.declared.keywords.TheConstants.{DOMAIN_FLAG, GOAL_FLAG, GOAL_REWARD_FLAG, INIT_FLAG, METRIC_FLAG, REQUIREMENTS_FLAG, MAXIMIZE}
 use Rattle.ppddl_lex.specs.Words.{is_flag, is_name}
 use Rattle.ppddl_model.specs.declared.refusal.TextCode.{TextCode}
-use Rattle.ppddl_model.specs.declared.refusal.TextCode.TheVariants.{Expected, Unsupported, Twice, DomainName}
+use Rattle.ppddl_model.specs.declared.refusal.TextCode.TheVariants.{Expected, Unsupported, Twice}
 use Rattle.ppddl_model.specs.declared.tree.Condition.{Condition}
 use Rattle.ppddl_model.specs.declared.tree.Problem.{Problem}
 use Rattle.ppddl_names.specs.Declarations.{Declared, with_objects}
@@ -14,9 +14,8 @@ use Rattle.token_cursor.specs.declared.place.Place.{Place}
 use Rattle.token_cursor.specs.Ahead.{same}
 use Rattle.token_cursor.specs.Forms.{Form, Forms, lone, group, none, more, begin_of}
 use Rattle.token_cursor.specs.Reading.{Fault, fails}
-use Rattle.token_cursor.specs.Sequences.{of_word, in_group, one_then, last, giving, checking, word_or_group, group_with, keyword}
+use Rattle.token_cursor.specs.Sequences.{of_word, in_group, one_then, last, giving, checking}
 use Rattle.ppddl_forms.specs.declared.name.Name.{Name}
-use Rattle.ppddl_forms.specs.Sequences.{each_to}
 use Rattle.ppddl_forms.specs.Words.{name, reward}
 use Rattle.ppddl_objects.specs.Objects.{objects}
 use Rattle.ppddl_sections.specs.declared.symbols.TheConstants.{OBJECTS_FLAG, MINIMIZE}
@@ -27,16 +26,14 @@ use Rattle.ppddl_sections.specs.Starts as start_by
 use Rattle.ppddl_problems.specs.declared.problem_draft.ProblemDraft.{ProblemDraft}
 use Rattle.ppddl_problems.specs.declared.section.Section.{Section}
 use Rattle.ppddl_problems.specs.declared.section.Section.TheVariants as section_named
-use Rattle.ppddl_problems.specs.Problems.{is_domain_flag, section_of, has_section, new_section, section_flag, no_sections, section_rest, section, problem_of, with_goal, ended, ended_with, sections, problem}
-use Rattle.ppddl_grammar.specs.Words as word
+use Rattle.ppddl_problems.specs.Problems.{is_domain_flag, section_of, has_section, new_section, section_flag, no_sections, section_rest, section, problem_of, with_goal, ended, ended_with, sections}
 use Rattle.ppddl_grammar.specs.Words.{headed, IsReward}
-use Rattle.ppddl_grammar.proofs.Parts.{by_test, same_word, is_same, on_true, on_false, branch, giving_ok, last_ok, name_is}
+use Rattle.ppddl_grammar.proofs.Parts.{by_test, same_word, is_same, on_false, branch, giving_ok, last_ok, name_is}
 use Rattle.ppddl_grammar.proofs.Costs.{reward_derived, reward_accepted}
 use Rattle.ppddl_lists.proofs.Objects.{objects_derived, objects_accepted}
 use Rattle.ppddl_section_grammar.proofs.Problems.{start-derived, start-accepted, goal-derived, goal-accepted, reward-derived, reward-accepted}
 use Rattle.ppddl_definition_grammar.specs.Problems as by
 use Rattle.ppddl_definition_grammar.specs.Problems.{IsMetric, IsSection, IsProblem}
-use Rattle.ppddl_definition_grammar.specs.Folds.{Fold}
 use Rattle.ppddl_definition_grammar.specs.Laws.{ProblemIsDerived, ProblemIsAccepted}
 use Rattle.ppddl_definition_grammar.proofs.Folds.{each_to-derived, each_to-accepted, flags-derived, flags-accepted}
 
