@@ -129,7 +129,7 @@ fn limits(rt: HostRuntime) -> Result<(), Fail> {
 }
 
 /// The piece, so many times.
-fn repeated(alloc: Global, piece: &str, times: u32) -> Result<String, AllocError> {
+fn many(alloc: Global, piece: &str, times: u32) -> Result<String, AllocError> {
     let mut out = String::new(alloc);
     for _ in 0..times {
         out.push_str(piece)?;
@@ -143,8 +143,8 @@ fn limits_of_effects(rt: HostRuntime) -> Result<(), Fail> {
     let alloc = rt.alloc();
     let nine = "(probabilistic 0.000000001 (a)) (probabilistic 0.000000001 (b))";
     let half = format!(in alloc; "{nine} (probabilistic 0.5 (c))")?;
-    let ten = repeated(alloc, "(decrease (reward) 1000000) ", 10)?;
-    let eleven = repeated(alloc, "(decrease (reward) 1000000) ", 11)?;
+    let ten = many(alloc, "(decrease (reward) 1000000) ", 10)?;
+    let eleven = many(alloc, "(decrease (reward) 1000000) ", 11)?;
     let rows: [(&str, u8, &str); 4] = [
         (nine, 0, "penalty 10.000000\natoms 2\n"),
         (half.as_str(), 8, "limit 21 1000000000000000000\n"),
@@ -192,7 +192,7 @@ fn long_texts(rt: HostRuntime) -> Result<(), Fail> {
         ),
     ];
     for (length, words, status, text) in rows {
-        let long = repeated(alloc, " ", length)?;
+        let long = many(alloc, " ", length)?;
         let setting = Setting {
             words,
             files: &[("long", long.as_str().as_bytes()), ("bad", b")")],
