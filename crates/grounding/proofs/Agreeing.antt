@@ -34,33 +34,15 @@ use Rattle.joint_choices.specs.Change.{name_of, condition_atoms, tested_atoms, I
 use Rattle.grounding.specs.Atoms.{texts_of, order_of, numbering_of}
 use Rattle.grounding.specs.Problem.{ground_problem}
 use Rattle.grounding.proofs.Texts.{text_tells_names}
-use Rattle.grounding.proofs.Plain.{all_at, IsPlain, Covers, has_plain_name, declares_plain, binding_covers, atom_is_plain, condition_is_plain, literals_are_plain, tested_are_plain}
+use Rattle.grounding.proofs.Formed.{all_at, has_names, IsFormed, Covers, has_formed_name, declares_formed}
+use Rattle.grounding.proofs.Instances.{all_from, test_all, world_is_formed, binding_is_formed, literals_formed, tested_formed, condition_formed, goal_formed, init_atom_formed, changing_formed, facts_formed}
 use Rattle.grounding.proofs.Order.{texts_rise, by_texts_member, text_is_there, text_is_ones, number_at, no_number}
 
--- ---- lists
-
-pub all_from : {X : Type 0} (P : X → Type 0) (xs : List X) → ((x : X) → Contains xs x → P x) → All P xs
-all_from P xs each = All-weaker (Contains xs) P each xs (All-contains_itself xs)
-
-test_all : {X : Type 0} (p : X → Bool) (xs : List X) → ((x : X) → Contains xs x → p x ≡ true) → list_all p xs ≡ true
-test_all p [] each = refl
-test_all p (x ∷ xs) each =
-    rw (each x (Contains-first x xs)) (test_all p xs (λ y inside. each y (Contains-later x xs y inside)))
-
-once_member : (objects : List ObjectDecl) (o : ObjectDecl) → Contains (once objects) o → Contains objects o
-once_member [] o inside = inside
-once_member (x ∷ more) o inside = elim (Contains-cons_cases x (filter (λ (y : ObjectDecl). not (same_name y.name x.name)) (once more)) o inside) [
-  | inl here ↦ subst (λ z. Contains (x ∷ more) z) here (Contains-first x more)
-  | inr later ↦
-      Contains-later x more o (once_member more o
-      (Contains-filter_cases (λ (y : ObjectDecl). not (same_name y.name x.name)) (once more) o later).0)
-]
+abbrev pub IsPlain : GroundAtom → Type 0
+IsPlain = IsFormed is_plain
 
 module _ (task : Task) (fit : IsWellFormed task) where
   -- ---- names
-
-  all_objects : List ObjectDecl
-  all_objects = task.domain.constants ++ task.problem.objects
 
   object_is_plain : (o : ObjectDecl) → Contains (task.domain.constants ++ task.problem.objects) o → is_plain o.name ≡ true
   object_is_plain o inside =
@@ -69,132 +51,51 @@ module _ (task : Task) (fit : IsWellFormed task) where
       (and_parts (is_plain o.name) (is_type task.domain.types o.kind)
       (and_parts (is_plain o.name && is_type task.domain.types o.kind) (has_one_type (task.domain.constants ++ task.problem.objects) o) whole).0).0
 
-  pub world_is_plain : list_all has_plain_name (world task).objects ≡ true
-  world_is_plain =
-      test_all has_plain_name (once (task.domain.constants ++ task.problem.objects))
-      (λ o inside. object_is_plain o (once_member (task.domain.constants ++ task.problem.objects) o inside))
+  objects_are_plain : list_all (has_formed_name is_plain) (task.domain.constants ++ task.problem.objects) ≡ true
+  objects_are_plain = test_all (has_formed_name is_plain) (task.domain.constants ++ task.problem.objects) object_is_plain
 
-  domain_is_plain : list_all has_plain_name (domain_world task.domain).objects ≡ true
-  domain_is_plain =
-      test_all has_plain_name (once task.domain.constants)
-      (λ o inside. object_is_plain o (Contains-append_left task.domain.constants task.problem.objects o (once_member task.domain.constants o inside)))
-
-  predicates_are_plain : list_all declares_plain task.domain.predicates ≡ true
+  predicates_are_plain : list_all (declares_formed is_plain) task.domain.predicates ≡ true
   predicates_are_plain =
-      test_all declares_plain task.domain.predicates (λ d inside.
+      test_all (declares_formed is_plain) task.domain.predicates (λ d inside.
       (and_parts (is_plain d.name) (params_fit task.domain.types d.params)
       (all_at (λ (x : PredicateDecl). is_plain x.name && params_fit task.domain.types x.params) task.domain.predicates d
       (and_parts (are_distinct (map (λ (x : PredicateDecl). x.name) task.domain.predicates))
       (list_all (λ (x : PredicateDecl). is_plain x.name && params_fit task.domain.types x.params) task.domain.predicates) fit.predicates).1
       inside)).0)
 
-  nothing_in_sight : Covers [] []
-  nothing_in_sight v seen = absurd cc
+  pub world_is_plain : list_all (has_formed_name is_plain) (world task).objects ≡ true
+  world_is_plain = world_is_formed is_plain task objects_are_plain
 
-  -- ---- instances
-
-  pub instance_parts : (i : Instance) → Contains (instances task) i
-      → Contains task.domain.actions i.action × Contains (bindings (world task) i.action.params []) i.binding
-  instance_parts i inside =
-      let found = Contains-flat_map_cases (λ (a : Action). map (λ b. record { action = a; binding = b }) (bindings (world task) a.params []))
-      task.domain.actions i inside in
-      let made = Contains-map_cases {X = Binding} {Y = Instance} (λ b. record { action = found.0; binding = b }) (bindings (world task) found.0.params []) i found.2 in
-      subst (λ (j : Instance). Contains task.domain.actions j.action × Contains (bindings (world task) j.action.params []) j.binding) made.2
-      (found.1, made.1)
-
-  pub kept_is_instance : (i : Instance) → Contains (kept_instances task) i → Contains (instances task) i
-  kept_is_instance i inside = (Contains-filter_cases (is_kept task) (instances task) i inside).0
-
-  pub action_is : (i : Instance) → Contains (instances task) i → action_fits (domain_world task.domain) task.domain i.action ≡ true
-  action_is i inside =
-      all_at (action_fits (domain_world task.domain) task.domain) task.domain.actions i.action fit.actions (instance_parts i inside).0
-
-  pub covers : (i : Instance) → Contains (instances task) i → Covers i.action.params i.binding
-  covers i inside =
-      subst (λ ps. Covers ps i.binding) (append-nil i.action.params)
-      (binding_covers (world task) world_is_plain i.action.params [] [] i.binding nothing_in_sight (instance_parts i inside).1)
-
-  parts_fit : (i : Instance) → Contains (instances task) i
-      → (condition_fits (domain_world task.domain) task.domain i.action.condition i.action.params ≡ true)
-      × (effect_fits (domain_world task.domain) task.domain i.action.effect i.action.params ≡ true)
-  parts_fit i inside =
-      let first = and_parts (is_plain i.action.name && params_fit task.domain.types i.action.params
-      && condition_fits (domain_world task.domain) task.domain i.action.condition i.action.params)
-      (effect_fits (domain_world task.domain) task.domain i.action.effect i.action.params) (action_is i inside) in (
-        (and_parts (is_plain i.action.name && params_fit task.domain.types i.action.params)
-            (condition_fits (domain_world task.domain) task.domain i.action.condition i.action.params) first.0).1,
-        first.1,
-      )
+  pub covers : (i : Instance) → Contains (instances task) i → Covers is_plain i.action.params i.binding
+  covers = binding_is_formed is_plain task objects_are_plain
 
   literals_plain : (i : Instance) → Contains (instances task) i → All IsPlain (literals (world task) i.action.effect i.binding)
-  literals_plain i inside =
-      literals_are_plain (domain_world task.domain) (world task) task.domain domain_is_plain world_is_plain predicates_are_plain
-      i.action.effect i.action.params i.binding (covers i inside) (parts_fit i inside).1
+  literals_plain = literals_formed is_plain task objects_are_plain predicates_are_plain fit
 
   tested_plain : (i : Instance) → Contains (instances task) i → All IsPlain (tested_atoms (world task) i.action.effect i.binding)
-  tested_plain i inside =
-      tested_are_plain (domain_world task.domain) (world task) task.domain domain_is_plain world_is_plain predicates_are_plain
-      i.action.effect i.action.params i.binding (covers i inside) (parts_fit i inside).1
+  tested_plain = tested_formed is_plain task objects_are_plain predicates_are_plain fit
 
   condition_plain : (i : Instance) → Contains (instances task) i → All IsPlain (condition_atoms (world task) i.action.condition i.binding)
-  condition_plain i inside =
-      condition_is_plain (domain_world task.domain) (world task) task.domain domain_is_plain world_is_plain predicates_are_plain
-      i.action.condition i.action.params i.binding (covers i inside) (parts_fit i inside).0
+  condition_plain = condition_formed is_plain task objects_are_plain predicates_are_plain fit
 
   goal_plain : All IsPlain (condition_atoms (world task) task.problem.goal [])
-  goal_plain =
-      condition_is_plain (world task) (world task) task.domain world_is_plain world_is_plain predicates_are_plain
-      task.problem.goal [] [] nothing_in_sight fit.goal
-
-  -- ---- `:init`
+  goal_plain = goal_formed is_plain task objects_are_plain predicates_are_plain fit
 
   pub init_atom_plain : (a : Atom) → atom_fits (world task) [] task.domain.predicates a ≡ true → IsPlain (ground_atom [] a)
-  init_atom_plain a = atom_is_plain (world task) world_is_plain [] [] nothing_in_sight task.domain.predicates predicates_are_plain a
-
-  chance_plain : (i : InitItem) → item_fits (world task) task.domain i ≡ true → All IsPlain (chance_atoms i)
-  chance_plain (item.Fact a) fits = All-nil IsPlain
-  chance_plain (item.Value v) fits = All-nil IsPlain
-  chance_plain (item.Chance branches) fits =
-      all_from IsPlain (map (ground_atom []) (flat_map (λ (branch : InitBranch). branch.atoms) branches)) (λ q inside.
-      let found = Contains-map_cases (ground_atom []) (flat_map (λ (branch : InitBranch). branch.atoms) branches) q inside in
-      let branch = Contains-flat_map_cases (λ (branch : InitBranch). branch.atoms) branches found.0 found.1 in
-      subst IsPlain found.2 (init_atom_plain found.0
-      (all_at (atom_fits (world task) [] task.domain.predicates) branch.0.atoms found.0
-      (all_at (λ (x : InitBranch). list_all (atom_fits (world task) [] task.domain.predicates) x.atoms) branches branch.0 fits branch.1) branch.2)))
-
-  fact_plain : (i : InitItem) → item_fits (world task) task.domain i ≡ true → All IsPlain (fact_atoms i)
-  fact_plain (item.Fact a) fits = all_from IsPlain (ground_atom [] a ∷ []) (λ q inside. elim (Contains-cons_cases (ground_atom [] a) [] q inside) [
-    | inl here ↦ subst IsPlain here (init_atom_plain a fits)
-    | inr none ↦ absurd (Contains-nil q none)
-  ])
-  fact_plain (item.Value v) fits = All-nil IsPlain
-  fact_plain (item.Chance branches) fits = All-nil IsPlain
-
-  item_is : (i : InitItem) → Contains task.problem.init i → item_fits (world task) task.domain i ≡ true
-  item_is i inside = all_at (item_fits (world task) task.domain) task.problem.init i fit.init inside
+  init_atom_plain = init_atom_formed is_plain task objects_are_plain predicates_are_plain
 
   pub changing_plain : (q : GroundAtom) → Contains (changing_atoms task) q → IsPlain q
-  changing_plain q inside =
-      All-contains IsPlain (changing_atoms task) q
-      (All-append IsPlain (flat_map (λ (i : Instance). literals (world task) i.action.effect i.binding) (kept_instances task))
-      (flat_map chance_atoms task.problem.init)
-      (all_from IsPlain (flat_map (λ (i : Instance). literals (world task) i.action.effect i.binding) (kept_instances task)) (λ a there.
-      let found = Contains-flat_map_cases (λ (i : Instance). literals (world task) i.action.effect i.binding) (kept_instances task) a there in
-      All-contains IsPlain (literals (world task) found.0.action.effect found.0.binding) a
-      (literals_plain found.0 (kept_is_instance found.0 found.1)) found.2))
-      (all_from IsPlain (flat_map chance_atoms task.problem.init) (λ a there.
-      let found = Contains-flat_map_cases chance_atoms task.problem.init a there in
-      All-contains IsPlain (chance_atoms found.0) a (chance_plain found.0 (item_is found.0 found.1)) found.2))) inside
+  changing_plain = changing_formed is_plain task objects_are_plain predicates_are_plain fit
 
   facts_plain : (q : GroundAtom) → Contains (facts task) q → IsPlain q
-  facts_plain q inside =
-      let found = Contains-flat_map_cases fact_atoms task.problem.init q inside in
-      All-contains IsPlain (fact_atoms found.0) q (fact_plain found.0 (item_is found.0 found.1)) found.2
+  facts_plain = facts_formed is_plain task objects_are_plain predicates_are_plain fit
 
   -- ---- an atom is told by its text
 
   pub told_by_text : (q a : GroundAtom) → IsPlain q → IsPlain a → list_text q ≡ list_text a → q ≡ a
-  told_by_text q a plain plain' same = text_tells_names q a plain plain' same
+  told_by_text q a plain plain' same =
+      text_tells_names q a (and_parts (has_names q) (list_all is_plain q) plain).1
+      (and_parts (has_names a) (list_all is_plain a) plain').1 same
 
   abbrev pub texts : List (List ℕ)
   texts = texts_of (changing_atoms task)

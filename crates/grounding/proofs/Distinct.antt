@@ -22,7 +22,7 @@ use Rattle.joint_choices.specs.Same.{same_choice}
 use Rattle.joint_choices.specs.Joint.{weight_of, idle, joined, added, numbers, with_factor, product_with}
 use Rattle.joint_choices.proofs.RisingLists.{rises-rising, All-rising}
 use Rattle.joint_choices.proofs.Fitting.{all-with_items, all-products, all-positive}
-use Rattle.grounding.proofs.Agreeing.{all_from}
+use Rattle.grounding.proofs.Instances.{all_from}
 use Rattle.grounding.specs.Starts.{item_den, true_choice, item_choices, start_choices}
 
 -- ---- merged choices differ

@@ -53,7 +53,7 @@ use Rattle.grounding.specs.declared.refusal.GroundRefusal.{GroundRefusal}
 use Rattle.grounding.specs.Laws as laws
 use Rattle.grounding.specs.Laws.{IsPenalty, AreInRange}
 use Rattle.grounding.proofs.Order.{texts_rise}
-use Rattle.grounding.proofs.Agreeing.{all_from, instance_parts, kept_is_instance}
+use Rattle.grounding.proofs.Instances.{all_from, instance_parts, kept_is_instance}
 use Rattle.grounding.proofs.Distinct.{Differ, OnlyAdds, starts_differ, start_adds}
 use Rattle.grounding.proofs.Limited.{both_are, IsSmall, IsLimited, IsWithin, limits_are}
 use Rattle.grounding.proofs.Naming.{pairs_map, names_differ}
@@ -241,7 +241,7 @@ module _ (task : Task) (fit : IsWellFormed task) (charges : Charges) (within : I
   module _ (positive_costs : (a : Action) → Contains task.domain.actions a → 1 ≤ sure_cost task charges a) where
     module _ (i : Instance) (kept : Contains (kept_instances task) i) where
       abbrev of_action : Contains task.domain.actions i.action
-      of_action = (instance_parts task fit i (kept_is_instance task fit i kept)).0
+      of_action = (instance_parts task i (kept_is_instance task i kept)).0
 
       instance_within : IsWithinLimits (world task) (numbering_of task) i.action.effect i.binding (base_cost task charges)
       instance_within =

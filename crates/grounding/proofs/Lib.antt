@@ -1,6 +1,7 @@
 pub mod Texts
-pub mod Plain
+pub mod Formed
 pub mod Order
+pub mod Instances
 pub mod Agreeing
 pub mod Alike
 pub mod Starting
@@ -8,4 +9,5 @@ pub mod Standing
 pub mod Limited
 pub mod Distinct
 pub mod Naming
+pub mod Spelled
 pub mod Invariant

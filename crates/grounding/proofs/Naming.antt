@@ -1,5 +1,5 @@
 -- The instances of a well-formed task have distinct names.
-use Rattle.std.proofs.Common.{◌≡◌, inl, inr, true, false, cond, not, ◌&&◌, List, [], ◌∷◌, ◌++◌, map, refl, sym, ap, subst, ◌∙◌, arith}
+use Rattle.std.proofs.Common.{◌≡◌, inl, inr, Bool, true, false, cond, not, ◌&&◌, List, [], ◌∷◌, ◌++◌, map, refl, sym, ap, subst, ◌∙◌, arith}
 use Rattle.std.specs.Prelude.{◌≢◌, AllPairs, Contains, filter, flat_map, slice_index_or}
 use Rattle.std.specs.List.{list_any, list_all}
 use Rattle.std.proofs.lemmas.Bool.{and_parts, and_from, or_parts, or_from, not-true, false_from_ne_true}
@@ -20,8 +20,9 @@ use Rattle.ppddl_model.proofs.States.{same_name-Decides}
 use Rattle.ground_stands.proofs.Texts.{any_from}
 use Rattle.ground_stands.proofs.Lists.{Contains-filter_cases}
 use Rattle.grounding.proofs.Texts.{text_tells_names}
-use Rattle.grounding.proofs.Plain.{all_at, Covers, names}
-use Rattle.grounding.proofs.Agreeing.{all_from, kept_is_instance, covers, action_is}
+use Rattle.grounding.proofs.Formed.{all_at, Covers, names}
+use Rattle.grounding.proofs.Instances.{all_from, kept_is_instance, action_is}
+use Rattle.grounding.proofs.Agreeing.{covers}
 
 -- ---- pairs
 
@@ -143,13 +144,13 @@ bindings_differ w objects (p ∷ ps) b apart =
 
 -- ---- instances
 
-plain_values : (scope : List Param) (b : Binding) (ps : List Param) → Covers scope b
-    → ((p : Param) → Contains ps p → Contains scope p) → list_all is_plain (values_of ps b) ≡ true
-plain_values scope b [] covers part = refl
-plain_values scope b (p ∷ ps) covers part =
-    and_from (is_plain (bound b p.name)) (list_all is_plain (values_of ps b))
+pub formed_values : (is_formed : Name → Bool) (scope : List Param) (b : Binding) (ps : List Param) → Covers is_formed scope b
+    → ((p : Param) → Contains ps p → Contains scope p) → list_all is_formed (values_of ps b) ≡ true
+formed_values is_formed scope b [] covers part = refl
+formed_values is_formed scope b (p ∷ ps) covers part =
+    and_from (is_formed (bound b p.name)) (list_all is_formed (values_of ps b))
     (covers p.name (any_from (names p.name) scope p (part p (Contains-first p ps)) ((same_name-Decides p.name p.name).1 refl)))
-    (plain_values scope b ps covers (λ q inside. part q (Contains-later p ps q inside)))
+    (formed_values is_formed scope b ps covers (λ q inside. part q (Contains-later p ps q inside)))
 
 pairs_unmap : {X Y : Type 0} (R : Y → Y → Type 0) (f : X → Y) (xs : List X) → AllPairs R (map f xs) → AllPairs (λ x x'. R (f x) (f x')) xs
 pairs_unmap R f [] pairs = λ i j d before within. absurd (omega arith)
@@ -171,7 +172,7 @@ pairs_within R all (x ∷ part) member pairs =
 module _ (task : Task) (fit : IsWellFormed task) where
   -- the values of parameters are plain names
   values_are_plain : (i : Instance) → Contains (instances task) i → list_all is_plain (values_of i.action.params i.binding) ≡ true
-  values_are_plain i inside = plain_values i.action.params i.binding i.action.params (covers task fit i inside) (λ p there. there)
+  values_are_plain i inside = formed_values is_plain i.action.params i.binding i.action.params (covers task fit i inside) (λ p there. there)
 
   name_is_plain : (i : Instance) → Contains (instances task) i
       → list_all is_plain (i.action.name ∷ values_of i.action.params i.binding) ≡ true
@@ -236,6 +237,6 @@ module _ (task : Task) (fit : IsWellFormed task) where
   pub names_differ : AllPairs (λ (i j : Instance). instance_name i ≢ instance_name j) (kept_instances task)
   names_differ =
       pairs_within (λ (i j : Instance). instance_name i ≢ instance_name j) (instances task) (kept_instances task)
-      (λ i kept. kept_is_instance task fit i kept)
+      (λ i kept. kept_is_instance task i kept)
       (AllPairs-filter (λ (i j : Instance). Contains (instances task) i → Contains (instances task) j → instance_name i ≢ instance_name j)
       (is_kept task) (instances task) all_instances)

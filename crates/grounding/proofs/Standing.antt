@@ -28,7 +28,8 @@ use Rattle.joint_choices.proofs.Step.{step_law}
 use Rattle.grounding.specs.Atoms.{order_of, numbering_of}
 use Rattle.grounding.specs.Problem.{joint_of, ground_action, ground_problem}
 use Rattle.grounding.proofs.Order.{text_is_there, text_is_ones}
-use Rattle.grounding.proofs.Agreeing.{all_from, instance_parts, kept_is_instance, condition_agrees, goal_agrees, tested_agrees, is_numbered, is_view, order_differs}
+use Rattle.grounding.proofs.Instances.{all_from, instance_parts, kept_is_instance}
+use Rattle.grounding.proofs.Agreeing.{condition_agrees, goal_agrees, tested_agrees, is_numbered, is_view, order_differs}
 use Rattle.grounding.proofs.Starting.{starts_are_alike}
 
 -- each item of a list with what it is mapped to
@@ -47,7 +48,7 @@ module _ (task : Task) (fit : IsWellFormed task) (charges : Charges) where
 
   module _ (i : Instance) (kept : Contains (kept_instances task) i) where
     inside_all : Contains (instances task) i
-    inside_all = kept_is_instance task fit i kept
+    inside_all = kept_is_instance task i kept
 
     pub kept_is_valued : are_valued (world task) i.action.effect i.binding ≡ true
     kept_is_valued =
@@ -82,7 +83,7 @@ module _ (task : Task) (fit : IsWellFormed task) (charges : Charges) where
           step_law task charges (numbering_of task) (well_formed_sums task fit) (order_of task) (order_differs task fit)
           (state_of (ground_problem task charges) task) (is_view task fit charges) s
           (subst (λ n. IsTrue (is_inside n s)) (length-map (order_of task) list_text) inside)
-          i (instance_parts task fit i inside_all).0 (describes s)
+          i (instance_parts task i inside_all).0 (describes s)
           (subst (λ n. All (IsChoice n) (joint_of task charges i).list) (length-map (order_of task) list_text) choices);
     }
 

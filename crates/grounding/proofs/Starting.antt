@@ -62,8 +62,9 @@ use Rattle.grounding.specs.Starts.{item_den, true_choice, item_choices, start_ch
 use Rattle.grounding.specs.Problem.{ground_problem}
 use Rattle.joint_choices.proofs.Law.{entry_weight}
 use Rattle.grounding.proofs.Alike.{Alike, alike_rest, alike_shares, alike_over}
-use Rattle.grounding.proofs.Plain.{all_at, IsPlain}
-use Rattle.grounding.proofs.Agreeing.{all_from, member_of, place_of, same_bit, told_by_text, has_number, other_has_none, changing_plain, init_atom_plain, is_changing_member}
+use Rattle.grounding.proofs.Formed.{all_at}
+use Rattle.grounding.proofs.Instances.{all_from}
+use Rattle.grounding.proofs.Agreeing.{IsPlain, member_of, place_of, same_bit, told_by_text, has_number, other_has_none, changing_plain, init_atom_plain, is_changing_member}
 
 -- ---- truth tables
 
