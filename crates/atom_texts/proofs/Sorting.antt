@@ -1,6 +1,6 @@
 -- Texts that are put into an ordered set: the order in which they come does not matter, and the set has the texts of the atoms in order.
-use Rattle.std.proofs.Common.{◌≡◌, ℕ, zero, suc, ◌+◌, ◌<◌, true, false, Ordering, List, [], ◌∷◌, ◌++◌, map, length, take, get_or, add-one, if◌then◌else◌, refl, sym, ap, ◌∙◌, arith}
-use Rattle.std.specs.List.{list_any}
+use Rattle.std.proofs.Common.{◌≡◌, ℕ, zero, suc, ◌+◌, ◌<◌, Bool, true, false, true≢false, not, ◌&&◌, Ordering, List, [], ◌∷◌, ◌++◌, map, length, take, get_or, add-one, if◌then◌else◌, refl, sym, ap, ◌∙◌, arith}
+use Rattle.std.specs.List.{list_any, list_all}
 use Rattle.std.specs.BTreeSet.{insert_key}
 use Rattle.std.specs.declared.cmp.Ordering.TheVariants.{Less, Equal, Greater}
 use Rattle.std.specs.Ordering.{is_lt, is_eq, ordering_reverse, match_ordering}
@@ -10,6 +10,8 @@ use Rattle.plain_list.specs.Texts.{list_text, compare_texts, rises, rises_behind
 use Rattle.ppddl_model.specs.State.{same_name, GroundAtom}
 use Rattle.ppddl_model.proofs.States.{same_name-Decides}
 use Rattle.type_table.specs.Numbered.{with_name}
+use Rattle.type_table.proofs.Numbered.{same_name_itself}
+use Rattle.type_table.proofs.Lists.{by_test}
 use Rattle.grounding.specs.Atoms.{with_atom, by_texts, texts_of}
 use Rattle.atom_texts.specs.Texts.{with_texts}
 
@@ -85,6 +87,56 @@ texts_in_order (a ∷ atoms) =
     sym (put_again [] (map list_text atoms) (list_text a))
     ∙ ap (λ l. put l (list_text a)) (texts_in_order atoms)
     ∙ with_atom_is a (by_texts atoms)
+
+-- ---- texts that pass the same tests
+
+itself : (a : List ℕ) → compare_texts a a ≡ Equal
+itself a = by_order (compare_texts a a)
+    (λ less. absurd (true≢false (sym (same_name_itself a) ∙ ap is_eq less)))
+    (λ equal. equal)
+    (λ greater. absurd (true≢false (sym (same_name_itself a) ∙ ap is_eq greater)))
+
+put_twice : (texts : List (List ℕ)) (a : List ℕ) → put (put texts a) a ≡ put texts a
+put_twice [] a = let aa = itself a in rw aa refl
+put_twice (x ∷ texts) a =
+    let aa = itself a in
+    let later : put (put texts a) a ≡ put texts a = put_twice texts a in
+    by_order (compare_texts a x)
+    (λ (ax : compare_texts a x ≡ Less). rw (ax, aa) refl)
+    (λ (ax : compare_texts a x ≡ Equal). rw (ax, ax) refl)
+    (λ (ax : compare_texts a x ≡ Greater). rw (ax, ax) (ap (λ l. x ∷ l) later))
+
+abbrev other : List ℕ → List ℕ → Bool
+other y z = not (same_name y z)
+
+absorbed : (xs : List (List ℕ)) (y : List ℕ) (texts : List (List ℕ)) → list_all (other y) xs ≡ false → put (with_texts texts xs) y ≡ with_texts texts xs
+absorbed [] y texts there = absurd (true≢false there)
+absorbed (x ∷ xs) y texts there = by_test (same_name y x)
+    (λ e. let same = (same_name-Decides y x).0 e in
+    ap (put (with_texts (put texts x) xs)) same
+    ∙ put_again (put texts x) xs x ∙ ap (λ l. with_texts l xs) (put_twice texts x))
+    (λ e. absorbed xs y (put texts x) (sym (ap (λ t. not t && list_all (other y) xs) e) ∙ there))
+
+all_absorbed : (ys texts : List (List ℕ)) → ((y : List ℕ) → list_all (other y) ys ≡ false → put texts y ≡ texts) → with_texts texts ys ≡ texts
+all_absorbed [] texts each = refl
+all_absorbed (y ∷ ys) texts each =
+    ap (λ l. with_texts l ys) (each y (ap (λ t. not t && list_all (other y) ys) (same_name_itself y)))
+    ∙ all_absorbed ys texts (λ z there. each z (ap (λ t. other z y && t) there ∙ never (other z y)))
+  where
+    never : (a : Bool) → (a && false) ≡ false
+    never true = refl
+    never false = refl
+
+either_way : (ys texts xs : List (List ℕ)) → with_texts (with_texts texts xs) ys ≡ with_texts (with_texts texts ys) xs
+either_way [] texts xs = refl
+either_way (y ∷ ys) texts xs = ap (λ l. with_texts l ys) (put_again texts xs y) ∙ either_way ys (put texts y) xs
+
+within : (texts xs ys : List (List ℕ)) → ((g : List ℕ → Bool) → list_all g xs ≡ list_all g ys) → with_texts (with_texts texts xs) ys ≡ with_texts texts xs
+within texts xs ys same = all_absorbed ys (with_texts texts xs) (λ y there. absorbed xs y texts (same (other y) ∙ there))
+
+pub same_texts : (texts xs ys : List (List ℕ)) → ((g : List ℕ → Bool) → list_all g xs ≡ list_all g ys) → with_texts texts xs ≡ with_texts texts ys
+same_texts texts xs ys same =
+    sym (within texts xs ys same) ∙ either_way ys texts xs ∙ within texts ys xs (λ g. sym (same g))
 
 -- ---- texts that rise are distinct
 

@@ -1,6 +1,8 @@
--- The texts of atoms in order, as a statement.
+-- The texts of atoms in order, as statements.
 --     TextsAreInOrder    texts that are put in one after another are those of the atoms in bytewise order, each once
-use Rattle.std.specs.Prelude.{◌≡◌, List, [], map}
+--     SameTextsPutIn     texts that pass the same tests are put in alike, whatever their order and however often each comes
+use Rattle.std.specs.Prelude.{◌≡◌, ℕ, Bool, List, [], map}
+use Rattle.std.specs.List.{list_all}
 use Rattle.plain_list.specs.Texts.{list_text}
 use Rattle.ppddl_model.specs.State.{GroundAtom}
 use Rattle.grounding.specs.Atoms.{texts_of}
@@ -8,3 +10,7 @@ use Rattle.atom_texts.specs.Texts.{with_texts}
 
 abbrev pub TextsAreInOrder : Type 0
 TextsAreInOrder = (atoms : List GroundAtom) → with_texts [] (map list_text atoms) ≡ texts_of atoms
+
+abbrev pub SameTextsPutIn : Type 0
+SameTextsPutIn =
+    (texts xs ys : List (List ℕ)) → ((g : List ℕ → Bool) → list_all g xs ≡ list_all g ys) → with_texts texts xs ≡ with_texts texts ys

@@ -1,8 +1,10 @@
 //! The texts of atoms in order.
 
-ghost use Rattle.atom_texts.specs.Laws.{TextsAreInOrder};
+ghost use Rattle.atom_texts.specs.Laws.{TextsAreInOrder, SameTextsPutIn};
 
-/// Texts that are put in one after another are those of the atoms in bytewise order, each once.
+/// Texts that are put in one after another are those of the atoms in bytewise order, each once; and texts
+/// that pass the same tests are put in alike.
 pub fn text_laws()
-    ensures { TextsAreInOrder }
+    ensures order { TextsAreInOrder }
+    ensures same { SameTextsPutIn }
 {}

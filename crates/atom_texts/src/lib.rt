@@ -8,6 +8,6 @@ mod numbering;
 mod texts;
 
 pub use laws::text_laws;
-pub use literals::add_literals;
+pub use literals::{add_first, add_under};
 pub use numbering::{name_set, texts_of_set};
 pub use texts::{add_chances, fact_texts};

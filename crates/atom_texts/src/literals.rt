@@ -1,128 +1,38 @@
 //! The literals of effects.
 
-ghost use Rattle.std.specs.Prelude.{◌≡◌, flat_map, map, OnOk};
-ghost use Rattle.ppddl_model.specs.Changing.{literals};
-ghost use Rattle.ppddl_model.specs.Objects.{bindings};
+ghost use Rattle.std.specs.Prelude.{◌≡◌, flat_map, OnOk};
 ghost use Rattle.ppddl_model.specs.Steps.{world};
 ghost use Rattle.ground_names.specs.Scopes.{binding_of};
-ghost use Rattle.atom_texts.specs.Texts.{with_texts, literal_texts, each_texts, branch_texts, bound_texts};
+ghost use Rattle.quantified_atoms.specs.Needed.{params_of};
+ghost use Rattle.atom_texts.specs.Texts.{with_texts, ground_texts, first_texts, under_texts};
 
 use ground_names::{Scope, atom_text};
-use ground_sizes::{count_bindings, objects_of};
+use ground_sizes::objects_of;
 use plain_list::Text;
-use ppddl_model::{Branch, Effect, Param};
+use ppddl_model::{Atom, Param};
+use quantified_atoms::{QuantifiedAtom, is_settled};
 use std::alloc::{AllocError, Global};
 use std::collections::BTreeSet;
 use task_facts::TaskFacts;
 
-/// Puts in the texts of all literals of an effect, with every `forall` expanded.
-#[cycle(adding)]
-pub fn add_literals(
-    alloc: Global,
-    facts: &TaskFacts<'_>,
-    texts: &mut BTreeSet<Text>,
-    effect: &Effect,
-    scope: &Scope<'_>,
-) -> Result<(), AllocError>
-    ensures { OnOk result (texts.new.keys ≡ with_texts texts.old.keys
-        (literal_texts (world facts.now) (binding_of scope.now) effect.now)) }
-{
-    match effect {
-        Effect::Add(atom) | Effect::Delete(atom) => {
-            let text = atom_text(alloc, scope, atom)?;
-            texts.insert(Text::from_vec(text))?;
-            Ok(())
-        }
-        Effect::Both(parts) => add_each(alloc, &*facts, texts, parts.as_slice(), &*scope),
-        Effect::Forall(variables, inner) => add_ways(
-            alloc,
-            &*facts,
-            texts,
-            variables.as_slice(),
-            inner.get(),
-            &*scope,
-        ),
-        Effect::When(_, inner) => add_literals(alloc, &*facts, texts, inner.get(), &*scope),
-        Effect::Chance(branches) => {
-            add_branches(alloc, &*facts, texts, branches.as_slice(), &*scope)
-        }
-        Effect::Cost(_) | Effect::CostOf(_) => Ok(()),
-    }
-}
-
-/// Puts in those of each of the effects.
-#[cycle(adding)]
-fn add_each(
-    alloc: Global,
-    facts: &TaskFacts<'_>,
-    texts: &mut BTreeSet<Text>,
-    parts: &[Effect],
-    scope: &Scope<'_>,
-) -> Result<(), AllocError>
-    ensures { OnOk result (texts.new.keys ≡ with_texts texts.old.keys
-        (each_texts (world facts.now) (binding_of scope.now) parts.now)) }
-{
-    for part in parts {
-        add_literals(alloc, &*facts, &mut *texts, part, &*scope)?;
-    }
-    Ok(())
-}
-
-/// Puts in those of each of the branches.
-#[cycle(adding)]
-fn add_branches(
-    alloc: Global,
-    facts: &TaskFacts<'_>,
-    texts: &mut BTreeSet<Text>,
-    branches: &[Branch],
-    scope: &Scope<'_>,
-) -> Result<(), AllocError>
-    ensures { OnOk result (texts.new.keys ≡ with_texts texts.old.keys
-        (branch_texts (world facts.now) (binding_of scope.now) branches.now)) }
-{
-    for branch in branches {
-        add_literals(alloc, &*facts, &mut *texts, &branch.effect, &*scope)?;
-    }
-    Ok(())
-}
-
-/// Puts in those of an effect under all ways to bind the variables. Where a variable has no objects there are
-/// none, and the others are not bound, however many objects they have.
-#[cycle(adding)]
-fn add_ways(
-    alloc: Global,
-    facts: &TaskFacts<'_>,
-    texts: &mut BTreeSet<Text>,
-    variables: &[Param],
-    inner: &Effect,
-    scope: &Scope<'_>,
-) -> Result<(), AllocError>
-    ensures { OnOk result (texts.new.keys ≡ with_texts texts.old.keys
-        (bound_texts (world facts.now) (binding_of scope.now) variables.now inner.now)) }
-{
-    if count_bindings(facts.table(), variables) == 0 {
-        return Ok(());
-    }
-    add_bound(alloc, &*facts, texts, &*variables, &*inner, &*scope)
-}
-
-/// Puts in those of an effect under all ways to bind the variables.
-#[cycle(adding)]
-fn add_bound<'x>(
+/// Puts in the texts of an atom under all ways to bind variables on top of the scope.
+fn add_ways<'x>(
     alloc: Global,
     facts: &'x TaskFacts<'_>,
     texts: &mut BTreeSet<Text>,
-    variables: &'x [Param],
-    inner: &Effect,
+    atom: &Atom,
+    variables: &'x [&'x Param],
     scope: &'x Scope<'x>,
 ) -> Result<(), AllocError>
     ensures { OnOk result (texts.new.keys ≡ with_texts texts.old.keys
-        (bound_texts (world facts.now) (binding_of scope.now) variables.now inner.now)) }
+        (ground_texts (world facts.now) atom.now (params_of variables.now) (binding_of scope.now))) }
 {
     if variables.is_empty() {
-        return add_literals(alloc, &*facts, texts, &*inner, &*scope);
+        let text = atom_text(alloc, scope, atom)?;
+        texts.insert(Text::from_vec(text))?;
+        return Ok(());
     }
-    let first = &variables[0];
+    let first = variables[0];
     let objects = objects_of(alloc, (&*facts).table(), first)?;
     for object in objects.as_slice() {
         let inside = Scope::Bound(
@@ -130,14 +40,96 @@ fn add_bound<'x>(
             (&*facts).table().object_name(*object),
             &*scope,
         );
-        add_bound(
+        add_ways(
             alloc,
             &*facts,
             &mut *texts,
+            &*atom,
             &variables[1..],
-            &*inner,
             &inside,
         )?;
+    }
+    Ok(())
+}
+
+/// Puts in those of a quantified atom, if it names no parameter of an action.
+fn add_one_first(
+    alloc: Global,
+    facts: &TaskFacts<'_>,
+    texts: &mut BTreeSet<Text>,
+    quantified: &QuantifiedAtom<'_>,
+) -> Result<(), AllocError>
+    ensures { OnOk result (texts.new.keys
+        ≡ with_texts texts.old.keys (first_texts (world facts.now) quantified.now)) }
+{
+    if !is_settled(quantified) {
+        return Ok(());
+    }
+    add_ways(
+        alloc,
+        facts,
+        texts,
+        quantified.atom,
+        quantified.variables.as_slice(),
+        &Scope::Empty,
+    )
+}
+
+/// Puts in those of a quantified atom under a scope, if it names a parameter of an action.
+fn add_one_under(
+    alloc: Global,
+    facts: &TaskFacts<'_>,
+    texts: &mut BTreeSet<Text>,
+    quantified: &QuantifiedAtom<'_>,
+    scope: &Scope<'_>,
+) -> Result<(), AllocError>
+    ensures { OnOk result (texts.new.keys ≡ with_texts texts.old.keys
+        (under_texts (world facts.now) (binding_of scope.now) quantified.now)) }
+{
+    if is_settled(quantified) {
+        return Ok(());
+    }
+    add_ways(
+        alloc,
+        facts,
+        texts,
+        quantified.atom,
+        quantified.variables.as_slice(),
+        scope,
+    )
+}
+
+/// Puts in the texts of the atoms that name no parameter of an action: they are the same in each of its
+/// instances.
+pub fn add_first(
+    alloc: Global,
+    facts: &TaskFacts<'_>,
+    texts: &mut BTreeSet<Text>,
+    atoms: &[QuantifiedAtom<'_>],
+) -> Result<(), AllocError>
+    ensures { OnOk result (texts.new.keys
+        ≡ with_texts texts.old.keys (flat_map (first_texts (world facts.now)) atoms.now)) }
+{
+    for quantified in atoms {
+        add_one_first(alloc, facts, texts, quantified)?;
+    }
+    Ok(())
+}
+
+/// Puts in the texts of the atoms that name a parameter of an action, where the parameters stand for what
+/// the scope says.
+pub fn add_under(
+    alloc: Global,
+    facts: &TaskFacts<'_>,
+    texts: &mut BTreeSet<Text>,
+    atoms: &[QuantifiedAtom<'_>],
+    scope: &Scope<'_>,
+) -> Result<(), AllocError>
+    ensures { OnOk result (texts.new.keys ≡ with_texts texts.old.keys
+        (flat_map (under_texts (world facts.now) (binding_of scope.now)) atoms.now)) }
+{
+    for quantified in atoms {
+        add_one_under(alloc, facts, texts, quantified, scope)?;
     }
     Ok(())
 }

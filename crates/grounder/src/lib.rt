@@ -3,8 +3,10 @@
 
 mod answering;
 mod charging;
+mod depth;
 mod names;
 mod objects;
+mod outset;
 mod parts;
 mod sizing;
 mod terms;

@@ -11,7 +11,9 @@ ghost use Rattle.ground_actions.specs.Answers.{IsBindingOf};
 ghost use Rattle.grounder.specs.Limited.{Limited, ended};
 ghost use Rattle.grounder.specs.Parts.{IsEndOf, ArePartsOf};
 
+use crate::depth::is_deep;
 use crate::names::names_of;
+use crate::outset::first_fits;
 use crate::sizing::sized_actions;
 use early_limits::{early_limits, limit_laws};
 use ground_conditions::{Binding, ground_condition};
@@ -76,7 +78,13 @@ fn later_parts(
     ensures exact { (charges : Charges) → base_cost facts.now charges ≡ base
         → Limited (ArePartsOf facts.now charges) result (later_limits facts.now charges tested) }
 {
+    if is_deep(facts) {
+        return Err(GroundRefusal::Memory);
+    }
     let kept = kept_of_actions(alloc, facts)?;
+    if !first_fits(facts, kept.as_slice(), tested) {
+        return Err(GroundRefusal::Limit(LimitCode::GroundSize));
+    }
     let atoms = changing_texts(alloc, facts, kept.as_slice())?;
     let names = names_of(alloc, facts, atoms.as_slice())?;
     let within = Binding {

@@ -8,15 +8,17 @@ ghost use Rattle.ppddl_model.specs.Steps.{world};
 ghost use Rattle.ground_names.specs.Scopes.{binding_of};
 ghost use Rattle.task_facts.specs.Facts.{table_of};
 ghost use Rattle.kept_bindings.specs.Kept.{bound_to, IsAdded, AreKept};
+ghost use Rattle.kept_bindings.specs.Terms.{DecideValues};
 ghost use Rattle.kept_bindings.specs.Stages.{conditions_of, may_hold, may_all_hold};
 ghost use Rattle.kept_bindings.specs.Stages.{params_of, IsLeft};
 
 use crate::rows::Rows;
 use crate::stages::{Stage, Stages, stages_of};
-use crate::valued::are_valued;
+use crate::valued::{are_valued_first, are_valued_under};
 use ground_names::Scope;
 use ground_sizes::count_bindings;
 use ppddl_model::{Action, Condition};
+use quantified_atoms::{AtomKind, QuantifiedAtom, atoms_of};
 use std::alloc::{AllocError, Global};
 use task_facts::TaskFacts;
 
@@ -49,12 +51,13 @@ fn may_all_hold(
     Ok(true)
 }
 
-/// Puts the row of an instance, whose precondition may hold, behind the others, if the function terms of
-/// its effect have values.
+/// Puts the row of an instance, whose precondition may hold, behind the others, if the function terms have
+/// values.
 fn add_row(
     alloc: Global,
     facts: &TaskFacts<'_>,
     action: &Action,
+    terms: &[QuantifiedAtom<'_>],
     scope: &Scope<'_>,
     row: &[u32],
     rows: &mut Rows,
@@ -64,11 +67,12 @@ fn add_row(
     requires within { All (λ o. o < length (table_of facts.now).objects) row.now }
     requires bound { bound_to (table_of facts.now) action.now.params row.now []
         ≡ binding_of scope.now }
+    requires terms { DecideValues facts.now action.now terms.now }
     requires open { may_hold facts.now (binding_of scope.now) action.now.condition ≡ true }
     ensures { OnOk result (IsAdded facts.now action.now (binding_of scope.now ∷ [])
         rows.old rows.new) }
 {
-    let valued = are_valued(alloc, facts, &action.effect, scope)?;
+    let valued = are_valued_under(alloc, facts, terms, scope)?;
     if valued {
         return rows.push(row);
     }
@@ -82,6 +86,7 @@ fn bind<'x>(
     facts: &'x TaskFacts<'_>,
     action: &Action,
     stages: &'x [Stage<'_>],
+    terms: &[QuantifiedAtom<'_>],
     scope: &'x Scope<'x>,
     row: &mut Vec<u32>,
     rows: &mut Rows,
@@ -93,13 +98,22 @@ fn bind<'x>(
     requires bound { (rest : List ℕ)
         → bound_to (table_of facts.now) action.now.params (row.old.items ++ rest) []
         ≡ bound_to (table_of facts.now) (params_of stages.now) rest (binding_of scope.now) }
+    requires terms { DecideValues facts.now action.now terms.now }
     requires left { IsLeft facts.now action.now.condition stages.now (binding_of scope.now) }
     ensures row { OnOk result (row.new.items ≡ row.old.items) }
     ensures rows { OnOk result (IsAdded facts.now action.now
         (bindings (world facts.now) (params_of stages.now) (binding_of scope.now)) rows.old rows.new) }
 {
     if stages.is_empty() {
-        return add_row(alloc, &*facts, action, &*scope, row.as_slice(), rows);
+        return add_row(
+            alloc,
+            &*facts,
+            action,
+            &*terms,
+            &*scope,
+            row.as_slice(),
+            rows,
+        );
     }
     let stage = &stages[0];
     let bound = row.len();
@@ -119,6 +133,7 @@ fn bind<'x>(
             &*facts,
             &*action,
             &stages[1..],
+            &*terms,
             &inside,
             &mut *row,
             &mut *rows,
@@ -147,12 +162,18 @@ pub fn kept_bindings(
     if !may {
         return Ok(rows);
     }
+    let terms = atoms_of(alloc, facts, AtomKind::FunctionTerm, &action.effect)?;
+    let valued = are_valued_first(alloc, facts, terms.as_slice())?;
+    if !valued {
+        return Ok(rows);
+    }
     let mut row = Vec::new(alloc);
     bind(
         alloc,
         facts,
         action,
         stages.as_slice(),
+        terms.as_slice(),
         &Scope::Empty,
         &mut row,
         &mut rows,

@@ -5,7 +5,6 @@
 mod binding;
 mod rows;
 mod stages;
-mod terms;
 mod valued;
 mod variables;
 

@@ -1,125 +1,35 @@
-//! Whether the function terms of effects have values.
+//! Whether function terms have values.
 
 ghost use Rattle.std.specs.Prelude.{◌≡◌, IfOk};
 ghost use Rattle.std.specs.List.{list_all};
-ghost use Rattle.ppddl_model.specs.declared.tree.Branch.{Branch};
-ghost use Rattle.ppddl_model.specs.declared.tree.Effect.{Effect};
-ghost use Rattle.ppddl_model.specs.Functions.{are_valued};
-ghost use Rattle.ppddl_model.specs.Objects.{bindings};
 ghost use Rattle.ppddl_model.specs.Steps.{world};
 ghost use Rattle.ground_names.specs.Scopes.{binding_of};
+ghost use Rattle.quantified_atoms.specs.Needed.{params_of};
+ghost use Rattle.kept_bindings.specs.Terms.{has_values, is_valued};
+ghost use Rattle.kept_bindings.specs.Terms.{is_valued_first, is_valued_under};
 
-use crate::terms::names_terms;
 use ground_names::Scope;
-use ground_sizes::{count_bindings, objects_of};
-use ppddl_model::{Branch, Effect, Param};
+use ground_sizes::objects_of;
+use ppddl_model::{Atom, Param};
+use quantified_atoms::{QuantifiedAtom, is_settled};
 use std::alloc::{AllocError, Global};
 use task_facts::TaskFacts;
 
-/// Whether each function term of an effect has a value, with every `forall` expanded. Parts that name no
-/// function term are passed.
-#[cycle(valuing)]
-pub(crate) fn are_valued(
-    alloc: Global,
-    facts: &TaskFacts<'_>,
-    effect: &Effect,
-    scope: &Scope<'_>,
-) -> Result<bool, AllocError>
-    ensures { IfOk result (λ v. v
-        ≡ are_valued (world facts.now) effect.now (binding_of scope.now)) }
-{
-    match effect {
-        Effect::CostOf(term) => facts.has_value(alloc, term, scope),
-        Effect::Both(parts) => are_valued_each(alloc, &*facts, parts.as_slice(), &*scope),
-        Effect::Forall(variables, inner) => {
-            let named = names_terms(inner.get());
-            if named {
-                are_valued_ways(alloc, &*facts, variables.as_slice(), inner.get(), &*scope)
-            } else {
-                Ok(true)
-            }
-        }
-        Effect::When(_, inner) => are_valued(alloc, &*facts, inner.get(), &*scope),
-        Effect::Chance(branches) => {
-            are_valued_branches(alloc, &*facts, branches.as_slice(), &*scope)
-        }
-        Effect::Add(_) | Effect::Delete(_) | Effect::Cost(_) => Ok(true),
-    }
-}
-
-/// Whether this is so of each of the effects.
-#[cycle(valuing)]
-fn are_valued_each(
-    alloc: Global,
-    facts: &TaskFacts<'_>,
-    parts: &[Effect],
-    scope: &Scope<'_>,
-) -> Result<bool, AllocError>
-    ensures { IfOk result (λ v. v ≡ list_all (λ (e : Effect).
-        are_valued (world facts.now) e (binding_of scope.now)) parts.now) }
-{
-    for part in parts {
-        if !are_valued(alloc, &*facts, part, &*scope)? {
-            return Ok(false);
-        }
-    }
-    Ok(true)
-}
-
-/// Whether this is so of each of the branches.
-#[cycle(valuing)]
-fn are_valued_branches(
-    alloc: Global,
-    facts: &TaskFacts<'_>,
-    branches: &[Branch],
-    scope: &Scope<'_>,
-) -> Result<bool, AllocError>
-    ensures { IfOk result (λ v. v ≡ list_all (λ (x : Branch).
-        are_valued (world facts.now) x.effect (binding_of scope.now)) branches.now) }
-{
-    for branch in branches {
-        if !are_valued(alloc, &*facts, &branch.effect, &*scope)? {
-            return Ok(false);
-        }
-    }
-    Ok(true)
-}
-
-/// Whether this is so of an effect under all ways to bind the variables. Where a variable has no objects there
-/// are none, and the others are not bound, however many objects they have.
-#[cycle(valuing)]
-fn are_valued_ways(
-    alloc: Global,
-    facts: &TaskFacts<'_>,
-    variables: &[Param],
-    inner: &Effect,
-    scope: &Scope<'_>,
-) -> Result<bool, AllocError>
-    ensures { IfOk result (λ v. v ≡ list_all (are_valued (world facts.now) inner.now)
-        (bindings (world facts.now) variables.now (binding_of scope.now))) }
-{
-    if count_bindings(facts.table(), variables) == 0 {
-        return Ok(true);
-    }
-    are_valued_bound(alloc, &*facts, &*variables, &*inner, &*scope)
-}
-
-/// Whether this is so of an effect under all ways to bind the variables.
-#[cycle(valuing)]
-fn are_valued_bound<'x>(
+/// Whether a function term has a value however the variables are bound on top of the scope.
+fn has_values<'x>(
     alloc: Global,
     facts: &'x TaskFacts<'_>,
-    variables: &'x [Param],
-    inner: &Effect,
+    term: &Atom,
+    variables: &'x [&'x Param],
     scope: &'x Scope<'x>,
 ) -> Result<bool, AllocError>
-    ensures { IfOk result (λ v. v ≡ list_all (are_valued (world facts.now) inner.now)
-        (bindings (world facts.now) variables.now (binding_of scope.now))) }
+    ensures { IfOk result (λ v. v ≡ has_values (world facts.now) term.now
+        (params_of variables.now) (binding_of scope.now)) }
 {
     if variables.is_empty() {
-        return are_valued(alloc, &*facts, &*inner, &*scope);
+        return facts.has_value(alloc, term, scope);
     }
-    let first = &variables[0];
+    let first = variables[0];
     let objects = objects_of(alloc, (&*facts).table(), first)?;
     for object in objects.as_slice() {
         let inside = Scope::Bound(
@@ -127,7 +37,82 @@ fn are_valued_bound<'x>(
             (&*facts).table().object_name(*object),
             &*scope,
         );
-        if !are_valued_bound(alloc, &*facts, &variables[1..], &*inner, &inside)? {
+        if !has_values(alloc, &*facts, &*term, &variables[1..], &inside)? {
+            return Ok(false);
+        }
+    }
+    Ok(true)
+}
+
+/// Whether a quantified term has all its values.
+fn is_valued(
+    alloc: Global,
+    facts: &TaskFacts<'_>,
+    term: &QuantifiedAtom<'_>,
+    scope: &Scope<'_>,
+) -> Result<bool, AllocError>
+    ensures { IfOk result (λ v. v ≡ is_valued (world facts.now) term.now (binding_of scope.now)) }
+{
+    has_values(alloc, facts, term.atom, term.variables.as_slice(), scope)
+}
+
+/// Whether a term that names no parameter of an action has all its values. Any other passes.
+fn is_valued_first(
+    alloc: Global,
+    facts: &TaskFacts<'_>,
+    term: &QuantifiedAtom<'_>,
+) -> Result<bool, AllocError>
+    ensures { IfOk result (λ v. v ≡ is_valued_first (world facts.now) term.now) }
+{
+    if is_settled(term) {
+        return is_valued(alloc, facts, term, &Scope::Empty);
+    }
+    Ok(true)
+}
+
+/// Whether a term that names a parameter of an action has all its values. Any other passes.
+fn is_valued_under(
+    alloc: Global,
+    facts: &TaskFacts<'_>,
+    term: &QuantifiedAtom<'_>,
+    scope: &Scope<'_>,
+) -> Result<bool, AllocError>
+    ensures { IfOk result (λ v. v ≡ is_valued_under (world facts.now) (binding_of scope.now) term.now) }
+{
+    if is_settled(term) {
+        return Ok(true);
+    }
+    is_valued(alloc, facts, term, scope)
+}
+
+/// Whether each of the terms that name no parameter of an action has all its values.
+pub(crate) fn are_valued_first(
+    alloc: Global,
+    facts: &TaskFacts<'_>,
+    terms: &[QuantifiedAtom<'_>],
+) -> Result<bool, AllocError>
+    ensures { IfOk result (λ v. v ≡ list_all (is_valued_first (world facts.now)) terms.now) }
+{
+    for term in terms {
+        if !is_valued_first(alloc, facts, term)? {
+            return Ok(false);
+        }
+    }
+    Ok(true)
+}
+
+/// Whether each of the terms that name a parameter of an action has all its values.
+pub(crate) fn are_valued_under(
+    alloc: Global,
+    facts: &TaskFacts<'_>,
+    terms: &[QuantifiedAtom<'_>],
+    scope: &Scope<'_>,
+) -> Result<bool, AllocError>
+    ensures { IfOk result (λ v. v
+        ≡ list_all (is_valued_under (world facts.now) (binding_of scope.now)) terms.now) }
+{
+    for term in terms {
+        if !is_valued_under(alloc, facts, term, scope)? {
             return Ok(false);
         }
     }

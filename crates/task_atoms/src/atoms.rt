@@ -2,48 +2,62 @@
 
 ghost use Rattle.std.specs.Prelude.{◌≡◌, length, flat_map, IfOk, OnOk};
 ghost use Rattle.std.specs.List.{AllZip};
-ghost use Rattle.ppddl_model.specs.Steps.{world};
 ghost use Rattle.task_facts.specs.Facts.{table_of};
-ghost use Rattle.kept_bindings.specs.Kept.{binding_of_row, IsRow, AreKept};
-ghost use Rattle.atom_texts.specs.Texts.{with_texts, literal_texts};
+ghost use Rattle.kept_bindings.specs.Kept.{IsRow, AreKept};
+ghost use Rattle.atom_texts.specs.Texts.{with_texts};
 ghost use Rattle.grounding.specs.Atoms.{numbering_of};
-ghost use Rattle.task_atoms.specs.Atoms.{action_texts};
+ghost use Rattle.task_atoms.specs.Atoms.{action_texts, row_texts};
 
-use crate::under::add_under;
-use atom_texts::{add_chances, texts_of_set};
+use crate::counting::are_too_many;
+use crate::under::add_under_row;
+use atom_texts::{add_chances, add_first, text_laws, texts_of_set};
 use ground_names::Scope;
 use kept_bindings::Rows;
 use plain_list::{List, Text};
 use ppddl_model::Action;
+use quantified_atoms::{AtomKind, QuantifiedAtom, atoms_of};
 use std::alloc::{AllocError, Global};
 use std::collections::BTreeSet;
 use task_facts::TaskFacts;
 
-/// Puts in the texts of the literals of a kept instance, whose objects are those of a row.
+/// Puts in the texts of those literals of a kept instance that name a parameter of its action. Its objects
+/// are those of a row.
 fn add_row(
     alloc: Global,
     facts: &TaskFacts<'_>,
     texts: &mut BTreeSet<Text>,
     action: &Action,
+    atoms: &[QuantifiedAtom<'_>],
     row: &[u32],
 ) -> Result<(), AllocError>
     requires { IsRow (table_of facts.now) (length action.now.params) row.now }
-    ensures { OnOk result (texts.new.keys ≡ with_texts texts.old.keys (literal_texts (world facts.now)
-        (binding_of_row (table_of facts.now) action.now.params row.now) action.now.effect)) }
+    ensures { OnOk result (texts.new.keys ≡ with_texts texts.old.keys
+        (row_texts facts.now action.now atoms.now row.now)) }
 {
     let params = action.params.as_slice();
-    add_under(
-        alloc,
-        facts,
-        texts,
-        &action.effect,
-        params,
-        row,
-        &Scope::Empty,
-    )
+    add_under_row(alloc, facts, texts, atoms, params, row, &Scope::Empty)
 }
 
-/// Puts in those of the kept instances of an action.
+/// Puts in those of the rows.
+fn add_rows(
+    alloc: Global,
+    facts: &TaskFacts<'_>,
+    texts: &mut BTreeSet<Text>,
+    action: &Action,
+    atoms: &[QuantifiedAtom<'_>],
+    kept: &Rows,
+) -> Result<(), AllocError>
+    requires { AreKept facts.now action.now kept.now }
+    ensures { OnOk result (texts.new.keys ≡ with_texts texts.old.keys
+        (flat_map (row_texts facts.now action.now atoms.now) kept.now.rows)) }
+{
+    for place in 0..kept.len() {
+        add_row(alloc, facts, texts, action, atoms, kept.row(place))?;
+    }
+    Ok(())
+}
+
+/// Puts in the texts of the literals of the kept instances of an action: those that name no parameter once.
 fn add_action(
     alloc: Global,
     facts: &TaskFacts<'_>,
@@ -55,10 +69,13 @@ fn add_action(
     ensures { OnOk result (texts.new.keys
         ≡ with_texts texts.old.keys (action_texts facts.now action.now)) }
 {
-    for place in 0..kept.len() {
-        add_row(alloc, facts, texts, action, kept.row(place))?;
+    text_laws();
+    if kept.len() == 0 {
+        return Ok(());
     }
-    Ok(())
+    let atoms = atoms_of(alloc, facts, AtomKind::Literal, &action.effect)?;
+    add_first(alloc, facts, texts, atoms.as_slice())?;
+    add_rows(alloc, facts, texts, action, atoms.as_slice(), kept)
 }
 
 /// Puts in those of all actions.
@@ -80,7 +97,8 @@ fn add_actions(
 }
 
 /// The texts of the changing atoms of a task in bytewise order, where its kept instances are given: the
-/// number of an atom is the place of its text. It is refused for want of memory alone.
+/// number of an atom is the place of its text. It is refused for want of memory alone, and so where there are
+/// more literals than the ground size of a task may be: its texts are not listed.
 pub fn changing_texts(
     alloc: Global,
     facts: &TaskFacts<'_>,
@@ -89,8 +107,11 @@ pub fn changing_texts(
     requires { AllZip (AreKept facts.now) facts.now.domain.actions kept.now }
     ensures { IfOk result (λ texts. texts ≡ (numbering_of facts.now).atoms) }
 {
-    let mut texts = BTreeSet::new(alloc);
     let task = facts.task();
+    if are_too_many(alloc, facts, task.domain.actions.as_slice(), kept)? {
+        return Err(AllocError);
+    }
+    let mut texts = BTreeSet::new(alloc);
     add_actions(
         alloc,
         facts,

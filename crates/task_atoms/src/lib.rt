@@ -2,6 +2,7 @@
 #![tactic(auto)]
 
 mod atoms;
+mod counting;
 mod facts;
 mod kept;
 mod under;

@@ -1,49 +1,51 @@
 //! The literals of one kept instance.
 
-ghost use Rattle.std.specs.Prelude.{◌≡◌, ◌<◌, length, All, OnOk};
+ghost use Rattle.std.specs.Prelude.{◌≡◌, ◌<◌, length, flat_map, All, OnOk};
 ghost use Rattle.ppddl_model.specs.Steps.{world};
 ghost use Rattle.ground_names.specs.Scopes.{binding_of};
 ghost use Rattle.task_facts.specs.Facts.{table_of};
 ghost use Rattle.kept_bindings.specs.Kept.{bound_to};
-ghost use Rattle.atom_texts.specs.Texts.{with_texts, literal_texts};
+ghost use Rattle.atom_texts.specs.Texts.{with_texts, under_texts};
 
-use atom_texts::add_literals;
+use atom_texts::add_under;
 use ground_names::Scope;
 use plain_list::Text;
-use ppddl_model::{Effect, Param};
+use ppddl_model::Param;
+use quantified_atoms::QuantifiedAtom;
 use std::alloc::{AllocError, Global};
 use std::collections::BTreeSet;
 use task_facts::TaskFacts;
 
-/// Puts in the texts of the literals of an effect, where the variables stand for the objects of a row.
-pub(crate) fn add_under<'x>(
+/// Puts in the texts of the atoms that name a parameter, where the parameters stand for the objects of a
+/// row on top of a scope.
+pub(crate) fn add_under_row<'x>(
     alloc: Global,
     facts: &'x TaskFacts<'_>,
     texts: &mut BTreeSet<Text>,
-    effect: &Effect,
-    variables: &'x [Param],
+    atoms: &[QuantifiedAtom<'_>],
+    params: &'x [Param],
     row: &[u32],
     scope: &'x Scope<'x>,
 ) -> Result<(), AllocError>
-    requires long { length row.now ≡ length variables.now }
+    requires long { length row.now ≡ length params.now }
     requires within { All (λ o. o < length (table_of facts.now).objects) row.now }
-    ensures { OnOk result (texts.new.keys ≡ with_texts texts.old.keys (literal_texts (world facts.now)
-        (bound_to (table_of facts.now) variables.now row.now (binding_of scope.now)) effect.now)) }
+    ensures { OnOk result (texts.new.keys ≡ with_texts texts.old.keys (flat_map (under_texts (world facts.now)
+        (bound_to (table_of facts.now) params.now row.now (binding_of scope.now))) atoms.now)) }
 {
-    if variables.is_empty() {
-        return add_literals(alloc, &*facts, texts, &*effect, &*scope);
+    if params.is_empty() {
+        return add_under(alloc, &*facts, texts, &*atoms, &*scope);
     }
     let inside = Scope::Bound(
-        variables[0].name.as_slice(),
+        params[0].name.as_slice(),
         (&*facts).table().object_name(row[0]),
         &*scope,
     );
-    add_under(
+    add_under_row(
         alloc,
         &*facts,
         texts,
-        &*effect,
-        &variables[1..],
+        &*atoms,
+        &params[1..],
         &row[1..],
         &inside,
     )

@@ -10,6 +10,7 @@ use Rattle.grounder.specs.Limited.{Limited, sized, ended}
 use Rattle.grounder.specs.Parts.{IsEndOf, ArePartsOf}
 use Rattle.grounder.proofs.Limiting.{refused_on, refused_as, passed_on, handed_on}
 use Rattle.grounder.proofs.Ending.{later_is}
+use Rattle.grounder.proofs.First.{later_large}
 use Rattle.grounder.proofs.parts.later_parts.Goals as goal
 
 pub returns-in_err-actions : goal.returns-in_err-actions
@@ -38,3 +39,8 @@ returns-in_err-ends c =
           (c.in_ok-actions.ensures.exact charges same).0
           (refused_as (IsEndOf task) (ArePartsOf task charges) c.in_err-ends.field-0.0 (ended task) c.in_err-ends.ensures)));
     }
+
+pub returns-then-not-first_fits : goal.returns-then-not-first_fits
+returns-then-not-first_fits c =
+    let task : Task = c.args.facts.now in
+    record { exact = λ charges same. later_large task charges c.args.tested (c.first_fits.ensures c.if-not-first_fits.true charges) }

@@ -86,7 +86,7 @@ bind-requires t c =
     ∙ ap (λ l. bound_to table (params_of l) more ((name, object) ∷ b)) (sym behind) in
     let left = subst (λ l. IsLeft task action.condition l ((name, object) ∷ b)) (sym behind)
     (still_left task action stage (drop 1 stages) b ((name, object) ∷ b) i within is before may) in
-    (less, (width, (rest, (long, (inside, (bound, left))))))
+    (less, (width, (rest, (long, (inside, (bound, (c.requires.terms, left)))))))
 
 pub loop-object-preserved-then-not-may : goal.loop-object-preserved-then-not-may
 loop-object-preserved-then-not-may t c =

@@ -12,11 +12,11 @@ returns-then-valued c =
     on_ok_weaker {P = c.push.new.self ≡ with_row c.args.rows.now c.args.row.now}
     {Q = IsAdded c.args.facts.now c.args.action.now (b ∷ []) c.args.rows.now c.push.new.self} c.push.result
     (λ is. row_added c.args.facts.now c.args.action.now b c.args.row.now c.args.rows.now c.push.new.self is
-    (sym (kept_where c.args.facts.now c.args.action.now b c.in_ok-valued.valued c.in_ok-valued.ensures c.requires.open) ∙ c.if-valued.true)
+    (sym (kept_where c.args.facts.now c.args.action.now b c.in_ok-valued.valued (c.in_ok-valued.ensures ∙ c.requires.terms b) c.requires.open) ∙ c.if-valued.true)
     (record { long = c.requires.long; within = c.requires.within }) c.requires.bound) c.push.ensures
 
 pub returns : goal.returns
 returns c =
     let b = binding_of c.args.scope.now in
     row_left c.args.facts.now c.args.action.now b c.args.rows.now
-    (sym (kept_where c.args.facts.now c.args.action.now b c.in_ok-valued.valued c.in_ok-valued.ensures c.requires.open) ∙ c.if-valued.false)
+    (sym (kept_where c.args.facts.now c.args.action.now b c.in_ok-valued.valued (c.in_ok-valued.ensures ∙ c.requires.terms b) c.requires.open) ∙ c.if-valued.false)

@@ -1,4 +1,5 @@
 use Rattle.std.proofs.Common.{◌≡◌, [], true, false, filter, length, sym, ap, subst, ◌∙◌}
+use Rattle.std.specs.List.{list_all}
 use Rattle.ppddl_model.specs.Objects.{World, bindings}
 use Rattle.ppddl_model.specs.Steps.{world}
 use Rattle.ground_sizes.specs.Counted.{counted}
@@ -6,8 +7,10 @@ use Rattle.task_facts.specs.Facts.{table_of}
 use Rattle.task_facts.proofs.Ways.{no_ways}
 use Rattle.kept_bindings.specs.Rows.{Table}
 use Rattle.kept_bindings.specs.Kept.{is_kept_under, IsAdded}
+use Rattle.kept_bindings.specs.Terms.{is_valued_first, is_valued_under}
 use Rattle.kept_bindings.specs.Stages.{conditions_of, may_all_hold, params_of, IsLeft}
 use Rattle.kept_bindings.proofs.BindSteps.{all_added, none_kept}
+use Rattle.kept_bindings.proofs.Valuing.{first_passed, first_failed, none_valued}
 use Rattle.kept_bindings.proofs.Staging.{first_left, first_none}
 use Rattle.kept_bindings.proofs.binding.kept_bindings.Goals as goal
 
@@ -38,7 +41,7 @@ bind-requires-clause-left c =
     let first = conditions_of c.in_ok-first.field-0.first.items in
     let may : may_all_hold task [] first ≡ true
     = sym (c.in_ok-may.ensures ∙ ap (λ l. may_all_hold task [] (conditions_of l)) c.as_slice.ensures.value) ∙ c.if-not-may.false in
-    subst (λ l. IsLeft task action.condition l []) (sym c.as_slice-2.ensures.value)
+    subst (λ l. IsLeft task action.condition l []) (sym c.as_slice-3.ensures.value)
     (first_left task action first c.in_ok-first.field-0.stages.items c.in_ok-first.ensures may)
 
 pub returns : goal.returns
@@ -47,5 +50,21 @@ returns c =
     let action = c.args.action.now in
     all_added task action c.new-rows.result c.bind.new.rows (ap (λ (t : Table). t.rows) c.new-rows.ensures)
     (subst (λ l. IsAdded task action (bindings (world task) l []) c.new-rows.result c.bind.new.rows)
-    (ap params_of c.as_slice-2.ensures.value ∙ c.in_ok-first.ensures.params)
+    (ap params_of c.as_slice-3.ensures.value ∙ c.in_ok-first.ensures.params)
     c.in_ok-bind.ensures.rows)
+
+pub returns-then-not-valued : goal.returns-then-not-valued
+returns-then-not-valued c =
+    let task = c.args.facts.now in
+    let action = c.args.action.now in
+    none_kept task action c.new-rows.result (ap (λ (t : Table). t.rows) c.new-rows.ensures)
+    (none_valued task action (bindings (world task) action.params [])
+    (first_failed (world task) action.effect c.in_ok-terms.terms.items c.in_ok-terms.ensures
+    (sym (c.in_ok-valued.ensures ∙ ap (list_all (is_valued_first (world task))) c.as_slice-2.ensures.value) ∙ c.if-not-valued.true)))
+
+pub bind-requires-clause-terms : goal.bind-requires-clause-terms
+bind-requires-clause-terms c = λ b.
+    let w = world c.args.facts.now in
+    ap (list_all (is_valued_under w b)) c.as_slice-4.ensures.value
+    ∙ first_passed w c.args.action.now.effect c.in_ok-terms.terms.items c.in_ok-terms.ensures
+    (sym (c.in_ok-valued.ensures ∙ ap (list_all (is_valued_first w)) c.as_slice-2.ensures.value) ∙ c.if-not-valued.false) b

@@ -1,23 +1,29 @@
-use Rattle.std.proofs.Common.{◌<◌, ℕ, List, [], length, get_or, refl, ap, ◌∙◌, arith}
+use Rattle.std.proofs.Common.{◌≡◌, [], length, sym, ap, ◌∙◌}
+use Rattle.std.specs.Prelude.{flat_map}
+use Rattle.std.proofs.lemmas.Result.{on_ok_weaker}
 use Rattle.ppddl_model.specs.Steps.{world}
-use Rattle.task_facts.specs.Facts.{table_of}
-use Rattle.kept_bindings.specs.Kept.{binding_of_row}
-use Rattle.atom_texts.specs.Texts.{with_texts, literal_texts}
-use Rattle.atom_texts.proofs.Adding.{texts_more}
-use Rattle.task_atoms.proofs.Gathering.{by_rows}
+use Rattle.atom_texts.specs.Texts.{with_texts, first_texts}
+use Rattle.task_atoms.specs.Atoms.{action_texts, row_texts}
+use Rattle.task_atoms.proofs.Instances.{no_rows, all_rows}
 use Rattle.task_atoms.proofs.atoms.add_action.Goals as goal
 
-pub loop-place-init : goal.loop-place-init
-loop-place-init c =
+pub returns-then-len-eq0 : goal.returns-then-len-eq0
+returns-then-len-eq0 c =
     ap (with_texts c.args.texts.now.keys)
-    (by_rows c.args.facts.now c.args.action.now c.args.kept.now (record { bound = c.requires.bound; each = c.requires.each }))
+    (sym (no_rows c.args.facts.now c.args.action.now c.args.kept.now (record { bound = c.requires.bound; each = c.requires.each })
+    (sym c.len.ensures ∙ c.if-len-eq0.true)))
 
-pub loop-place-preserved : goal.loop-place-preserved
-loop-place-preserved c =
-    let texts : List ℕ → List (List ℕ)
-    = λ row. literal_texts (world c.args.facts.now) (binding_of_row (table_of c.args.facts.now) c.args.action.now.params row) c.args.action.now.effect in
-    let within : c.loop-place.place < length c.args.kept.now.rows = omega (arith, c.len-place-end.ensures, c.loop-place-test.true) in
-    texts_more texts c.args.kept.now.rows c.loop-place.place (get_or c.args.kept.now.rows c.loop-place.place []) []
-    c.loop-place.texts.keys c.add_row.new.texts.keys _ within refl
-    (c.in_ok-add_row.ensures ∙ ap (λ row. with_texts c.loop-place.texts.keys (texts row)) c.row.ensures)
-    c.loop-place.invariant
+pub returns : goal.returns
+returns c =
+    let task = c.args.facts.now in
+    let action = c.args.action.now in
+    let texts = c.args.texts.now.keys in
+    let rows = c.args.kept.now.rows in
+    let qs = c.in_ok-atoms.atoms.items in
+    let first : c.add_first.new.texts.keys ≡ with_texts texts (flat_map (first_texts (world task)) qs)
+    = c.in_ok-add_first.ensures ∙ ap (λ l. with_texts texts (flat_map (first_texts (world task)) l)) c.as_slice.ensures.value in
+    on_ok_weaker {Q = c.add_rows.new.texts.keys ≡ with_texts texts (action_texts task action)} c.add_rows.result
+    (λ is. is
+    ∙ (λ i. with_texts (first i) (flat_map (row_texts task action (c.as_slice-2.ensures.value i)) rows))
+    ∙ all_rows task action c.args.kept.now (record { bound = c.requires.bound; each = c.requires.each }) qs c.in_ok-atoms.ensures
+    (λ none. c.if-len-eq0.false (c.len.ensures ∙ none)) c.text_laws.ensures.same texts) c.add_rows.ensures

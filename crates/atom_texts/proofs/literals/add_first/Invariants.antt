@@ -1,0 +1,10 @@
+use Rattle.std.proofs.Common.{◌≡◌, drop}
+use Rattle.std.specs.Prelude.{flat_map}
+use Rattle.ppddl_model.specs.Steps.{world}
+use Rattle.atom_texts.specs.Texts.{with_texts, first_texts}
+use Rattle.atom_texts.proofs.literals.add_first.Given as goal
+
+abbrev pub invariant-loop-quantified : goal.invariant-loop-quantified
+invariant-loop-quantified l =
+    with_texts l.texts.keys (flat_map (first_texts (world l.facts)) (drop l.quantified-index l.atoms))
+    ≡ with_texts l.fn.texts.keys (flat_map (first_texts (world l.facts)) l.atoms)

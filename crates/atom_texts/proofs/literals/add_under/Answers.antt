@@ -1,0 +1,12 @@
+use Rattle.ppddl_model.specs.Steps.{world}
+use Rattle.ground_names.specs.Scopes.{binding_of}
+use Rattle.atom_texts.specs.Texts.{under_texts}
+use Rattle.atom_texts.proofs.Adding.{texts_more}
+use Rattle.atom_texts.proofs.literals.add_under.Goals as goal
+
+pub loop-quantified-preserved : goal.loop-quantified-preserved
+loop-quantified-preserved c =
+    texts_more (under_texts (world c.args.facts.now) (binding_of c.args.scope.now)) c.args.atoms.now c.loop-quantified.quantified-index
+    c.quantified-item.result c.quantified-item.result
+    c.loop-quantified.texts.keys c.add_one_under.new.texts.keys _ c.loop-quantified-test.true c.quantified-item.is c.in_ok-add_one_under.ensures
+    c.loop-quantified.invariant

@@ -1,0 +1,14 @@
+use Rattle.std.proofs.Common.{◌<◌, ℕ, List, [], length, get_or, refl, ap, ◌∙◌, arith}
+use Rattle.atom_texts.specs.Texts.{with_texts}
+use Rattle.atom_texts.proofs.Adding.{texts_more}
+use Rattle.task_atoms.specs.Atoms.{row_texts}
+use Rattle.task_atoms.proofs.atoms.add_rows.Goals as goal
+
+pub loop-place-preserved : goal.loop-place-preserved
+loop-place-preserved c =
+    let texts : List ℕ → List (List ℕ) = row_texts c.args.facts.now c.args.action.now c.args.atoms.now in
+    let within : c.loop-place.place < length c.args.kept.now.rows = omega (arith, c.len-place-end.ensures, c.loop-place-test.true) in
+    texts_more texts c.args.kept.now.rows c.loop-place.place (get_or c.args.kept.now.rows c.loop-place.place []) []
+    c.loop-place.texts.keys c.add_row.new.texts.keys _ within refl
+    (c.in_ok-add_row.ensures ∙ ap (λ row. with_texts c.loop-place.texts.keys (texts row)) c.row.ensures)
+    c.loop-place.invariant

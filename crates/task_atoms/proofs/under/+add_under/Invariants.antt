@@ -1,5 +1,0 @@
-use Rattle.std.proofs.Common.{length}
-use Rattle.task_atoms.proofs.under.+add_under.Given as goal
-
-abbrev pub decreases-add_under : goal.decreases-add_under
-decreases-add_under l = length l.variables.now
