@@ -44,7 +44,7 @@ none_is_not_some : {X : Type 0} (x : X) → None ≡ Some x → ⊥
 none_is_not_some x same = cc
 
 -- a member of the first n
-taken_at : {X : Type 0} (l : List X) (n i : ℕ) (x : X) → slice_get (take n l) i ≡ Some x → (i < n) × (slice_get l i ≡ Some x)
+pub taken_at : {X : Type 0} (l : List X) (n i : ℕ) (x : X) → slice_get (take n l) i ≡ Some x → (i < n) × (slice_get l i ≡ Some x)
 taken_at l zero i x at = absurd (none_is_not_some x at)
 taken_at [] (suc n) i x at = absurd (none_is_not_some x at)
 taken_at (y ∷ l) (suc n) zero x at = (omega arith, at)
@@ -52,7 +52,7 @@ taken_at (y ∷ l) (suc n) (suc i) x at = let r = taken_at l n i x at in (omega 
 
 -- ---- what was listed is known
 
-starts_first : (xs : List Start) (more : List State) (id : ℕ) (x : Start) → slice_get xs id ≡ Some x → slice_get (states_of (map start_of xs) ++ more) id ≡ Some x.state
+pub starts_first : (xs : List Start) (more : List State) (id : ℕ) (x : Start) → slice_get xs id ≡ Some x → slice_get (states_of (map start_of xs) ++ more) id ≡ Some x.state
 starts_first [] more id x at = absurd (none_is_not_start x at)
 starts_first (y ∷ xs) more zero x at = ap (λ (z : Start). Some z.state) (some_start y x at)
 starts_first (y ∷ xs) more (suc id) x at = starts_first xs more id x at

@@ -26,7 +26,7 @@ use Rattle.word_rule.specs.Words.{Table, word, held_in, IsPublished}
 use Rattle.word_rule.specs.Rule.{Holds, IsShownBy, total, holders, one_if_some, taken_below}
 use Rattle.word_rule.specs.Laws.{IsViewOf, Sits}
 use Rattle.word_rule.proofs.Lists.{taken, taken_one}
-use Rattle.word_rule.proofs.Facts.{seen_lower_within, seen_upper_within, published_there}
+use Rattle.word_rule.proofs.Facts.{state_is, known_is_published, seen_lower_within, seen_upper_within, published_there}
 use Rattle.word_rule.proofs.Told.{held_is_told}
 use Rattle.word_table.specs.Seen.{board}
 use Rattle.word_table.specs.Closed.{is_held, row_in, ids_in, rows_in, image_in, AreClosed, IsRow, AreRows, IsImage}
@@ -256,8 +256,23 @@ module _ (g : Ground) (l : Layout) (most : ℕ) (s : Table) (k : ℕ) (v : View)
         (ids_pass l s.words l.ids) (slice_get-contains (ids_in l s.words l.ids) place id at)));
   }
 
+  -- each id given out is published, or a view holds it with one of its rights
+  all_rows : (length (rows_in g l s.words l.ids) ≤ core.given) × (core.given ≤ length (rows_in g l s.words l.ids) + most)
+  all_rows =
+      let same = holds.core.2.words.given in
+      let balance = holds.rights.balance in
+      let all = holds.rights.total in
+      let spares = spares_within s.views (λ j w at. (holds.core.2.views j w at).right) in
+      let buckets = taken_is_counted s.words l.ids l.buckets closed.held holds.words.once in
+      let ids = counted l s.words l.ids in
+      let rows = length-map (ids_in l s.words l.ids) (row_in g l s.words) in (
+        omega arith,
+        omega arith,
+      )
+
   pub image : (z : TableId) → IsImage (board g l most z) v (image_in g l s.words)
   image z = record {
+    problem = holds.table.problem;
     core = core;
     ids = ids_in l s.words l.ids;
     sound = holds.core.1;
@@ -269,15 +284,11 @@ module _ (g : Ground) (l : Layout) (most : ℕ) (s : Table) (k : ℕ) (v : View)
       (let same = holds.core.2.words.given in let few = holds.words.given in omega arith),
       (let same = holds.core.2.words.given in let noted = own.count in omega arith),
     );
-    published =
-        (let same = holds.core.2.words.given in
-        let balance = holds.rights.balance in
-        let all = holds.rights.total in
-        let spares = spares_within s.views (λ j w at. (holds.core.2.views j w at).right) in
-        let buckets = taken_is_counted s.words l.ids l.buckets closed.held holds.words.once in
-        let ids = counted l s.words l.ids in
-        let rows = length-map (ids_in l s.words l.ids) (row_in g l s.words) in
-        omega arith);
+    few = all_rows.0;
+    published = all_rows.1;
+    known = λ id t there has.
+        let published = known_is_published g l most s k v sits core holds.core.1 holds.core.2 id there in
+        holds.core.2.words.published id published ∙ ap Some (sym (state_is g l s.words (sight_at g core k) v id t of.layout own has));
     lower = λ t.
         let noted = seen_lower_within g l s.words (sight_at g core k) v t of.layout own in
         let sound = (holds.core.1.seen k).lower t in omega arith;

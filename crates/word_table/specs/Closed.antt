@@ -10,15 +10,17 @@
 --     IsRoom l room              memory for a row of each id, with its state
 --     IsRow c id row             the row shows the id's state and its numbers in the core
 --     AreRows c ids rows         the rows show the published ids, in rising order
---     IsImage b v image          the image shows a sound core, in which no number is wider than the pass had seen, and states without
---                                an id are at their first numbers; no more ids are given out than the table has, and all but the
---                                rights' number of them are published
-use Rattle.std.specs.Prelude.{◌≡◌, ◌≢◌, ℕ, zero, suc, ◌+◌, ◌<◌, ◌≤◌, min, Bool, false, ◌||◌, nat_eq, Some}
+--     IsImage b v image          the image shows a sound core of a problem within its limits, in which each id that the pass has a state
+--                                with is published with that state, no number is wider than the pass had seen, and states without an id
+--                                are at their first numbers; no more ids are given out than the table has, and all but the rights' number
+--                                of them are published
+use Rattle.std.specs.Prelude.{◌≡◌, ◌≢◌, ℕ, zero, suc, ◌+◌, ◌<◌, ◌≤◌, min, Bool, false, ◌||◌, nat_eq, IsTrue, Some}
 use Rattle.std.specs.Prelude.{List, [], length, map, filter, get_or, All, Contains, AllPairs}
 use Rattle.std.specs.Prelude.{vec_len, vec_capacity}
 use Rattle.std.specs.List.{slice_get, range_with_len}
 use Rattle.ground_model.specs.Packed.{State}
 use Rattle.ground_model.specs.Ground.{Ground}
+use Rattle.ground_model.specs.Invariant.{IsGroundProblem}
 use Rattle.bound_core.specs.declared.image.Image.{Image}
 use Rattle.bound_core.specs.declared.image.ImageRow.{ImageRow}
 use Rattle.bound_core.specs.Numbers.{first_word}
@@ -26,7 +28,7 @@ use Rattle.bound_core.specs.Core.{Core, IsPublished}
 use Rattle.bound_core.specs.Sound.{Sound}
 use Rattle.word_layout.specs.declared.layout.Layout.{Layout}
 use Rattle.word_view.specs.declared.view.View.{View}
-use Rattle.word_view.specs.Views.{seen_lower, seen_upper}
+use Rattle.word_view.specs.Views.{knows, has_state, seen_lower, seen_upper}
 use Rattle.word_rule.specs.Words.{given_in, held_in, state_in, lower_in, upper_in}
 use Rattle.word_table.specs.declared.room.Room.{Room}
 use Rattle.word_table.specs.Seen.{Board}
@@ -83,6 +85,7 @@ pub record AreRows (c : Core) (ids : List ℕ) (rows : List ImageRow) : Type 0 w
       → slice_get rows k ≡ Some row → IsRow c id row
 
 pub record IsImage (b : Board) (v : View) (image : Image) : Type 0 where
+  pub problem : IsGroundProblem b.problem
   pub core : Core
   pub ids : List ℕ
   pub sound : Sound b.problem core
@@ -91,6 +94,9 @@ pub record IsImage (b : Board) (v : View) (image : Image) : Type 0 where
       → (core.lower s ≡ 0) × (core.upper s ≡ first_word b.problem s)
   pub given : image.given_out ≡ core.given
   pub within : (core.given ≤ b.layout.ids) × (v.count ≤ core.given)
+  pub few : length image.rows ≤ core.given
   pub published : core.given ≤ length image.rows + b.most
+  pub known : (id : ℕ) (s : State) → knows v id → IsTrue (has_state v id s)
+      → core.state_of id ≡ Some s
   pub lower : (s : State) → seen_lower v s ≤ core.lower s
   pub upper : (s : State) → core.upper s ≤ seen_upper v s
