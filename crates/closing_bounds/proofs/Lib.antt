@@ -1,0 +1,3 @@
+pub mod Totals
+pub mod Reading
+pub mod Adding

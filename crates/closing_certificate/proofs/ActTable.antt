@@ -1,0 +1,92 @@
+-- The table of acts: it has the names of the actions that rows take, and no other.
+use Rattle.std.proofs.Common.{◌≡◌, inl, inr, ℕ, suc, ◌+◌, ◌<◌, ◌≤◌, true, List, [], ◌∷◌, ◌++◌, length, Option, Some, None, refl, sym, ap, subst, arith, Ordering}
+use Rattle.std.specs.Prelude.{Contains}
+use Rattle.std.specs.BTreeSet.{insert_key}
+use Rattle.std.specs.Ordering.{match_ordering}
+use Rattle.std.specs.declared.cmp.Ordering.TheVariants.{Less, Equal, Greater}
+use Rattle.std.proofs.lemmas.List.Concat.{flat_map-cons}
+use Rattle.plain_list.specs.Texts.{compare_texts, rises}
+use Rattle.plain_list.proofs.Members.{Contains-first, Contains-later, Contains-cons_cases, Contains-nil, Contains-flat_map, Contains-flat_map_cases}
+use Rattle.ground_model.specs.Ground.{Ground}
+use Rattle.certificate.specs.Content.{name_at}
+use Rattle.certificate.specs.Numbering.{Among, filled, table_of, place_of}
+use Rattle.certificate.proofs.Sorted.{table_sorted, table_has, table_origin, sorted_rises, name_among, place_is_own}
+use Rattle.closing_certificate.specs.declared.kept_row.KeptRow.{KeptRow}
+use Rattle.closing_certificate.specs.Kept.{act_name, act_names, named}
+use Rattle.closing_certificate.specs.Tables.{HaveActsIn}
+
+pub among_member : (texts : List (List ℕ)) (text : List ℕ) → Contains texts text → Among texts text
+among_member [] text inside = absurd (Contains-nil text inside)
+among_member (first ∷ more) text inside = elim (Contains-cons_cases first more text inside) [
+  | inl here ↦ inl here
+  | inr later ↦ inr (among_member more text later)
+]
+
+pub member_among : (texts : List (List ℕ)) (text : List ℕ) → Among texts text → Contains texts text
+member_among [] text among = absurd among
+member_among (first ∷ more) text (inl here) = subst (Contains (first ∷ more)) here (Contains-first first more)
+member_among (first ∷ more) text (inr later) = Contains-later first more text (member_among more text later)
+
+named_has : (o : Option (List ℕ)) (name : List ℕ) → o ≡ Some name → Contains (named o) name
+named_has o name is = subst (λ p. Contains (named p) name) (sym is) (Contains-first name [])
+
+named_from : (o : Option (List ℕ)) (name : List ℕ) → Contains (named o) name → o ≡ Some name
+named_from None name inside = absurd (Contains-nil name inside)
+named_from (Some other) name inside = elim (Contains-cons_cases other [] name inside) [
+  | inl here ↦ ap Some here
+  | inr later ↦ absurd (Contains-nil name later)
+]
+
+-- ---- how long a table is
+
+longer : (o : Ordering) (k x : List ℕ) (xs rest : List (List ℕ)) → length rest ≤ suc (length xs)
+    → length (match_ordering o (k ∷ x ∷ xs) (x ∷ xs) (x ∷ rest)) ≤ suc (suc (length xs))
+longer Less k x xs rest few = omega arith
+longer Equal k x xs rest few = omega arith
+longer Greater k x xs rest few = omega (arith, few)
+
+inserted_few : (table : List (List ℕ)) (k : List ℕ) → length (insert_key compare_texts table k) ≤ suc (length table)
+inserted_few [] k = omega arith
+inserted_few (x ∷ table) k = longer (compare_texts k x) k x table (insert_key compare_texts table k) (inserted_few table k)
+
+filled_few : (table texts : List (List ℕ)) → length (filled table texts) ≤ length table + length texts
+filled_few table [] = omega arith
+filled_few table (text ∷ texts) =
+    (let a = filled_few (insert_key compare_texts table text) texts in let b = inserted_few table text in omega arith)
+
+module _ (g : Ground) (rows : List KeptRow) where
+  abbrev acts : List (List ℕ)
+  acts = table_of (act_names g rows)
+
+  names_few : (rs : List KeptRow) → length (act_names g rs) ≤ length rs
+  names_few [] = omega arith
+  names_few (r ∷ rs) =
+      let a : act_names g (r ∷ rs) ≡ named (act_name g r.upper) ++ act_names g rs = flat_map-cons (λ (x : KeptRow). named (act_name g x.upper)) r rs in
+      one_more (act_name g r.upper) (act_names g rs) (act_names g (r ∷ rs)) (length rs) a (names_few rs)
+    where
+      one_more : (o : Option (List ℕ)) (rest all : List (List ℕ)) (n : ℕ) → all ≡ named o ++ rest → length rest ≤ n → length all ≤ suc n
+      one_more None rest all n is few = (let a = ap length is in omega arith)
+      one_more (Some name) rest all n is few = (let a = ap length is in omega arith)
+
+  pub acts_few : length acts ≤ length rows
+  acts_few = (let a = filled_few [] (act_names g rows) in let b = names_few rows in omega arith)
+
+  pub acts_rise : rises compare_texts acts ≡ true
+  acts_rise = sorted_rises acts (table_sorted (act_names g rows))
+
+  pub acts_have : HaveActsIn g acts rows
+  acts_have r inside name is =
+      table_has (act_names g rows) name (among_member (act_names g rows) name
+      (Contains-flat_map (λ (x : KeptRow). named (act_name g x.upper)) rows r name inside (named_has (act_name g r.upper) name is)))
+
+  pub act_from : (i : ℕ) → i < length acts
+      → (r : KeptRow) × Contains rows r × (act_name g r.upper ≡ Some (name_at acts i))
+  act_from i within =
+      let name = name_at acts i in
+      let inside : Contains (act_names g rows) name
+      = member_among (act_names g rows) name (table_origin (act_names g rows) name (name_among acts i within)) in
+      let from = Contains-flat_map_cases (λ (x : KeptRow). named (act_name g x.upper)) rows name inside in
+      (from.0, from.1, named_from (act_name g from.0.upper) name from.2)
+
+  pub act_place : (i : ℕ) → i < length acts → place_of acts (name_at acts i) ≡ i
+  act_place i within = place_is_own acts i (name_at acts i) (table_sorted (act_names g rows)) within refl

@@ -1,0 +1,13 @@
+pub mod Lists
+pub mod Once
+pub mod AtomSets
+pub mod Insides
+pub mod Used
+pub mod Places
+pub mod ActTable
+pub mod KeptRows
+pub mod Loops
+pub mod Order
+pub mod Steps
+pub mod Form
+pub mod Readings

@@ -1,0 +1,41 @@
+-- Rows by the places of their atoms and acts.
+--     ArePlaces numbers places     each number has its place among them
+--     place_in places q            the place of a number
+--     act_for acts name            to take the action of this name, by its place in the table; to give up where there is no name
+--     HasActIn g acts word         the table has the name of the action that the word names
+--     HaveActsIn g acts rows       the table has the names of the actions that rows take
+--     numbered_row g places acts r the row by these places
+use Rattle.std.specs.Prelude.{◌≡◌, ℕ, List, Option, Some, None, get_or, map, Contains}
+use Rattle.std.specs.List.{slice_get}
+use Rattle.fixed_round.specs.Words.{value_of}
+use Rattle.ground_model.specs.Ground.{Ground}
+use Rattle.certificate.specs.declared.act.Act.{Act}
+use Rattle.certificate.specs.declared.act.Act.TheVariants.{GiveUp, Do}
+use Rattle.certificate.specs.Rows.{Row}
+use Rattle.certificate.specs.Numbering.{Among, place_of}
+use Rattle.closing_certificate.specs.declared.kept_row.KeptRow.{KeptRow}
+use Rattle.closing_certificate.specs.Kept.{act_name}
+
+abbrev pub place_in : List ℕ → ℕ → ℕ
+place_in places q = get_or places q 0
+
+abbrev pub ArePlaces : List ℕ → List ℕ → Type 0
+ArePlaces numbers places = (k q : ℕ) → slice_get numbers k ≡ Some q → place_in places q ≡ k
+
+abbrev pub act_for : List (List ℕ) → Option (List ℕ) → Act
+act_for acts None = GiveUp
+act_for acts (Some name) = Do (place_of acts name)
+
+abbrev pub HasActIn : Ground → List (List ℕ) → ℕ → Type 0
+HasActIn g acts word = (name : List ℕ) → act_name g word ≡ Some name → Among acts name
+
+abbrev pub HaveActsIn : Ground → List (List ℕ) → List KeptRow → Type 0
+HaveActsIn g acts rows = (r : KeptRow) → Contains rows r → HasActIn g acts r.upper
+
+abbrev pub numbered_row : Ground → List ℕ → List (List ℕ) → KeptRow → Row
+numbered_row g places acts r = record {
+  lower = r.lower;
+  upper = value_of r.upper;
+  act = act_for acts (act_name g r.upper);
+  atoms = map (place_in places) r.atoms;
+}

@@ -1,0 +1,55 @@
+//! The rows by the places of their atoms and acts.
+
+ghost use Rattle.std.specs.Prelude.{◌≡◌, ◌<◌, ◌≤◌, IfOk, IsTrue, OnOk, length, map};
+ghost use Rattle.std.specs.List.{All};
+ghost use Rattle.plain_list.specs.Texts.{compare_texts, rises};
+ghost use Rattle.certificate.specs.declared.limits.TheConstants.{MOST_COUNT};
+ghost use Rattle.closing_certificate.specs.Kept.{HaveAtomsBelow};
+ghost use Rattle.closing_certificate.specs.Tables.{place_in, HaveActsIn, numbered_row};
+
+use crate::acts::act_of;
+use crate::kept_row::KeptRow;
+use certificate::{MOST_COUNT, RowView, Rows};
+use ground_model::{GroundProblem, Text};
+use std::alloc::{AllocError, Global};
+
+/// Puts the places of atoms in place of the numbers that stand there.
+fn take_places(numbers: &mut Vec<u32>, places: &[u32], atoms: &[u32]) -> Result<(), AllocError>
+    requires { All (λ q. q < length places.now) atoms.now }
+    ensures { OnOk result (numbers.new.items ≡ map (place_in places.now) atoms.now) }
+{
+    numbers.clear();
+    for atom in atoms {
+        numbers.push(places[*atom as usize])?;
+    }
+    Ok(())
+}
+
+/// The rows by the places of their atoms and acts.
+pub(crate) fn numbered_rows(
+    alloc: Global,
+    problem: &GroundProblem,
+    places: &[u32],
+    acts: &[Text],
+    rows: &[KeptRow],
+) -> Result<Rows, AllocError>
+    requires atoms { HaveAtomsBelow (length places.now) rows.now }
+    requires rises { IsTrue (rises compare_texts acts.now) }
+    requires few { length acts.now ≤ MOST_COUNT }
+    requires has { HaveActsIn problem.now acts.now rows.now }
+    ensures { IfOk result (λ numbered. numbered
+        ≡ map (numbered_row problem.now places.now acts.now) rows.now) }
+{
+    let mut numbered = Rows::new(alloc);
+    let mut numbers = Vec::new(alloc);
+    for row in rows {
+        take_places(&mut numbers, places, row.atoms.as_slice())?;
+        numbered.push(RowView {
+            lower: row.lower,
+            upper: row.upper.value(),
+            act: act_of(problem, acts, row.upper),
+            atoms: &numbers,
+        })?;
+    }
+    Ok(numbered)
+}
