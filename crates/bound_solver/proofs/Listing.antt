@@ -1,0 +1,49 @@
+-- The table of the states near the starts, as it is made.
+use Rattle.std.proofs.Common.{◌≡◌, ℕ, ◌+◌, ◌≤◌, Some, length, refl, sym, ap, ◌∙◌, subst, arith}
+use Rattle.std.specs.Prelude.{IsTrue}
+use Rattle.std.specs.List.{slice_get}
+use Rattle.ground_model.specs.Packed.{State}
+use Rattle.ground_model.specs.Ground.{Ground}
+use Rattle.ground_model.proofs.Packed.{length-inside}
+use Rattle.bound_core.specs.Core.{first_core}
+use Rattle.bound_core.proofs.Keeping.{first_is_sound}
+use Rattle.bound_core.proofs.Worth.{published_are_inside}
+use Rattle.word_view.specs.Views.{knows, has_state}
+use Rattle.word_view.proofs.Noting.{given_is_had}
+use Rattle.word_table.specs.Made.{AreFirst, IsMade}
+use Rattle.word_table.specs.Seen.{Board, Knowledge, IsOf}
+use Rattle.state_explorer.specs.declared.explored.Explored.{Explored}
+use Rattle.state_explorer.specs.Explored.{IsExplored}
+use Rattle.trial_workers.specs.Workers.{HasListed}
+use Rattle.bound_solver.specs.declared.sizes.Sizes.{Sizes}
+use Rattle.bound_solver.specs.Opened.{IsOpened}
+
+pub listed_are_first : (g : Ground) (most ids : ℕ) (explored : Explored) → IsExplored g most explored → most + 1 ≤ ids → AreFirst g ids explored.states
+listed_are_first g most ids explored listed room = record {
+  few = (let few = listed.few in omega arith);
+  differ = listed.differ;
+  reached = listed.reached;
+}
+
+module _ (g : Ground) (sizes : Sizes) (explored : Explored) (listed : IsExplored g sizes.sweep_states explored) where
+  module _ (b : Board) (k : Knowledge) (made : IsMade g (sizes.states + sizes.workers) sizes.workers explored.states b k) where
+    wide : (id : ℕ) (s : State) → slice_get explored.states id ≡ Some s → length s ≡ b.layout.width
+    wide id s there =
+        length-inside (length g.atoms) s
+        (published_are_inside g made.layout.problem (first_core g explored.states) (first_is_sound g explored.states listed.differ listed.reached).states id s there)
+        ∙ sym made.layout.width
+
+    has : HasListed explored.states k.view
+    has id s there = subst (λ (l : Knowledge). knows l.view id × IsTrue (has_state l.view id s)) (sym made.pass)
+        (given_is_had g b.layout sizes.workers explored.states id s there (wide id s there))
+
+    pub is_opened : IsOpened g sizes (record { words = b; pass = k; explored = explored })
+    is_opened = record {
+      problem = made.problem;
+      ids = made.count.0;
+      rights = (made.count.1, ap (λ (l : Knowledge). l.view.rights) made.pass);
+      here = subst (IsOf b) (sym made.pass) (record { table = refl; view = record { live = refl; problem = sym made.problem; layout = refl } });
+      free = ap (λ (l : Knowledge). l.view.spare) made.pass;
+      listed = listed;
+      has = has;
+    }

@@ -1,0 +1,3 @@
+pub mod Opened
+pub mod Ended
+pub mod Solved

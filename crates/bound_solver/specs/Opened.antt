@@ -1,0 +1,30 @@
+-- How a search begins.
+--     AreSizes sizes             1 to 16 workers; all starts may be swept, and the table has room for more states than are swept
+--     IsOpened g sizes o         a table of the problem with an id for each state and each worker, and as many claim rights as
+--                                workers; a pass over it that has all rights, no spare, and the states near the starts, each with
+--                                its place as its id
+use Rattle.std.specs.Prelude.{◌≡◌, ◌+◌, ◌<◌, ◌≤◌, None}
+use Rattle.ground_model.specs.declared.limits.TheConstants.{MOST_STARTS}
+use Rattle.ground_model.specs.Ground.{Ground}
+use Rattle.word_table.specs.Seen.{IsOf}
+use Rattle.state_explorer.specs.Explored.{IsExplored}
+use Rattle.trial_workers.specs.declared.crew.TheConstants.{MOST_WORKERS}
+use Rattle.trial_workers.specs.Workers.{HasListed}
+use Rattle.bound_solver.specs.declared.opening.Opening.{Opening}
+use Rattle.bound_solver.specs.declared.sizes.Sizes.{Sizes}
+use Rattle.bound_solver.specs.declared.sizes.TheConstants.{MOST_STATES}
+
+pub record AreSizes (sizes : Sizes) : Type 0 where
+  pub workers : (1 ≤ sizes.workers) × (sizes.workers ≤ MOST_WORKERS)
+  pub enough : MOST_STARTS ≤ sizes.sweep_states
+  pub room : sizes.sweep_states < sizes.states
+  pub few : sizes.states ≤ MOST_STATES
+
+pub record IsOpened (g : Ground) (sizes : Sizes) (o : Opening) : Type 0 where
+  pub problem : o.words.problem ≡ g
+  pub ids : o.words.layout.ids ≡ sizes.states + sizes.workers
+  pub rights : (o.words.most ≡ sizes.workers) × (o.pass.view.rights ≡ sizes.workers)
+  pub here : IsOf o.words o.pass
+  pub free : o.pass.view.spare ≡ None
+  pub listed : IsExplored g sizes.sweep_states o.explored
+  pub has : HasListed o.explored.states o.pass.view

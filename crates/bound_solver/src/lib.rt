@@ -1,0 +1,17 @@
+//! Solving a ground problem by bounds: a table of the states near the starts, rounds of a crew of workers over it,
+//! and what is known of every state when the search ends.
+#![tactic(auto)]
+
+mod closing;
+mod finishing;
+mod opening;
+mod sizes;
+mod solving;
+
+pub use bound_core::{Image, ImageRow};
+pub use closing::Closing;
+pub use finishing::finish;
+pub use opening::{Opening, open};
+pub use sizes::{MOST_STATES, Sizes};
+pub use solving::solve;
+pub use trial_workers::Effort;

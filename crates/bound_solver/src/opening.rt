@@ -1,0 +1,45 @@
+//! How a search begins.
+
+ghost use Rattle.std.specs.Prelude.{IfOk};
+ghost use Rattle.bound_solver.specs.Opened.{AreSizes, IsOpened};
+
+use crate::sizes::Sizes;
+use ground_model::GroundProblem;
+use state_explorer::{Explored, explore};
+use std::alloc::{AllocError, Global};
+use word_table::{Pass, Words, make};
+
+/// What a search has before its first round.
+#[derive(Drop)]
+pub struct Opening<'p> {
+    /// The table.
+    pub words: Words<'p>,
+    /// A pass over it that has the listed states, each with its place as its id, and all the claim rights.
+    pub pass: Pass,
+    /// The states near the starts.
+    pub explored: Explored,
+}
+
+/// Lists the states near the starts, and makes a table of them with an id for each of `states` and for each worker,
+/// and a claim right for each worker. It is refused for want of memory alone.
+///
+/// Rounds are made over the table by a crew that has the pass. Before the crew is made another pass may be split off
+/// without rights (`word_table`'s `split`), for whoever looks on, and be joined behind the last round.
+pub fn open<'p>(
+    alloc: Global,
+    problem: &'p GroundProblem,
+    sizes: &Sizes,
+) -> Result<Opening<'p>, AllocError>
+    requires { AreSizes sizes.now }
+    ensures { IfOk result (IsOpened problem.now sizes.now) }
+{
+    let explored = explore(alloc, problem, sizes.sweep_states)?;
+    let ids = sizes.states + sizes.workers;
+    let states = explored.states.as_slice();
+    let (words, pass) = make(alloc, problem, ids, sizes.workers, states)?;
+    Ok(Opening {
+        words,
+        pass,
+        explored,
+    })
+}
