@@ -24,6 +24,12 @@ module _ (old a b c d e f : List ℕ) where
   pub six_pieces : (((((old ++ a) ++ b) ++ c) ++ d) ++ e) ++ f ≡ old ++ (((((a ++ b) ++ c) ++ d) ++ e) ++ f)
   six_pieces = simp append_assoc
 
+-- of the line of a start with what is known of it
+module _ (old a b blank c d e f g h : List ℕ) where
+  pub start_pieces : ((((((((old ++ a) ++ b) ++ (blank ++ c)) ++ (blank ++ d)) ++ blank) ++ e) ++ f) ++ g) ++ h
+      ≡ old ++ ((((((((((a ++ b) ++ blank) ++ c) ++ blank) ++ d) ++ blank) ++ e) ++ f) ++ g) ++ h)
+  start_pieces = simp append_assoc
+
 -- ---- initial states
 
 pub short_start : (g : Ground) → IsGroundProblem g → (i : ℕ) (x : Start) → i < length g.starts → x ≡ get_or g.starts i x → 64 * length x.state < 4294967296

@@ -3,7 +3,7 @@
 ghost use Rattle.std.specs.Prelude.{◌≡◌, IfOk};
 ghost use Rattle.plan_report.specs.Reports.{accepted_text};
 
-use crate::pieces::{push_counted, push_units};
+use crate::pieces::{push_counted, push_interval};
 use certificate::Certificate;
 use plain_list::Bytes;
 use std::alloc::{AllocError, Global};
@@ -14,9 +14,7 @@ pub fn check_report(alloc: Global, certificate: &Certificate) -> Result<Bytes, A
     ensures { IfOk result (λ report. report ≡ accepted_text certificate.now) }
 {
     let mut out = Vec::from_slice(alloc, b"accepted\n")?;
-    push_units(&mut out, b"interval ", certificate.lower())?;
-    push_units(&mut out, b" ", certificate.upper())?;
-    out.push(b'\n')?;
+    push_interval(&mut out, certificate.lower(), certificate.upper())?;
     push_counted(&mut out, b"states ", certificate.rows().len() as u64)?;
     Ok(Bytes::from_vec(out))
 }

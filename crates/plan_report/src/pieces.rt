@@ -2,7 +2,7 @@
 
 ghost use Rattle.std.specs.Prelude.{◌≡◌, ◌++◌, codes, decimal, OnOk};
 ghost use Rattle.plan_report.specs.Units.{units};
-ghost use Rattle.plan_report.specs.Reports.{counted_line, fraction_text};
+ghost use Rattle.plan_report.specs.Reports.{counted_line, fraction_text, interval_line};
 
 use crate::units::put_units;
 use itoa::Buffer;
@@ -49,4 +49,14 @@ pub(crate) fn push_units(out: &mut Vec<u8>, word: &[u8], amount: u64) -> Result<
     let mut buffer = [0; 24];
     let length = put_units(amount, &mut buffer);
     out.extend_from_slice(&buffer[..length])
+}
+
+/// Appends the line of an interval, in units.
+pub(crate) fn push_interval(out: &mut Vec<u8>, lower: u64, upper: u64) -> Result<(), AllocError>
+    ensures { OnOk result (out.new.items ≡ out.old.items ++ interval_line lower upper) }
+{
+    push_units(out, b"interval ", lower)?;
+    push_units(out, b" ", upper)?;
+    out.push(b'\n')?;
+    Ok(())
 }

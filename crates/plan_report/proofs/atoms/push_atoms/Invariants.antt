@@ -1,6 +1,6 @@
 use Rattle.std.proofs.Common.{◌≡◌, ◌++◌, take}
 use Rattle.plan_report.specs.Reports.{atoms_text}
-use Rattle.plan_report.proofs.grounded.push_atoms.Given as goal
+use Rattle.plan_report.proofs.atoms.push_atoms.Given as goal
 
 abbrev pub invariant-loop-number : goal.invariant-loop-number
 invariant-loop-number l = l.out.items ≡ l.initial.out.items ++ atoms_text l.atoms (take l.number-index l.numbers)

@@ -1,0 +1,8 @@
+//! What holds of reports.
+
+ghost use Rattle.plan_report.specs.Laws.{ReportsAgree};
+
+/// The report of a search says of states no more than what its rows say of the starts.
+pub fn report_laws()
+    ensures { ReportsAgree }
+{}

@@ -1,0 +1,50 @@
+-- What a request asks of a solver, and what is told of what it left.
+--     solver_effort effort, solver_sizes sizes
+--                                    the same for the solver
+--     all_ids sizes                  how many ids the table has
+--     told_of g effort sizes left    what is told of a search that left this
+--     IsFoundBy g effort sizes f     a solver left this, with its certificate
+--     IsUnwritten c stop             why a certificate of version 2 has no text
+use Rattle.std.specs.Prelude.{◌≡◌, ◌⊎◌, ℕ, ◌+◌, ◌<◌, length}
+use Rattle.ground_model.specs.Ground.{Ground}
+use Rattle.certificate.specs.Content.{Content, text_of, most_bytes}
+use Rattle.trial_workers.specs.declared.effort.Effort as workers
+use Rattle.bound_solver.specs.declared.sizes.Sizes as solver
+use Rattle.bound_solver.specs.declared.closing.Closing.{Closing}
+use Rattle.bound_solver.specs.Solved.{IsSolved}
+use Rattle.closing_certificate.specs.Certificates.{IsCertificateOf}
+use Rattle.plan_request.specs.declared.effort.Effort.{Effort}
+use Rattle.plan_request.specs.declared.sizes.Sizes.{Sizes}
+use Rattle.plan_report.specs.Solved.{Solved, solved_of}
+use Rattle.plan_stop.specs.declared.stop.Stop.{Stop}
+use Rattle.plan_stop.specs.declared.stop.Stop.TheVariants.{NoMemory, Limit}
+use Rattle.plan_search.specs.declared.found.Found.{Found}
+
+abbrev pub solver_effort : Effort → workers.Effort
+solver_effort e = record {
+  gap = e.gap;
+  rounds = e.rounds;
+  trials = e.trials;
+  depth = e.depth;
+  tau = e.tau;
+  seed = e.seed;
+}
+
+abbrev pub solver_sizes : Sizes → solver.Sizes
+solver_sizes s = record { workers = s.workers; states = s.states; sweep_states = s.sweep_states }
+
+abbrev pub all_ids : Sizes → ℕ
+all_ids s = s.states + s.workers
+
+abbrev pub told_of : Ground → Effort → Sizes → Closing → Solved
+told_of g effort sizes left =
+    solved_of g left.image.rows left.image.given_out (all_ids sizes) effort.gap left.rounds
+
+pub record IsFoundBy (g : Ground) (effort : Effort) (sizes : Sizes) (f : Found) : Type 0 where
+  pub solved : IsSolved g (solver_sizes sizes) (solver_effort effort) f.closing
+  pub certified : IsCertificateOf g f.closing.image.rows f.certificate
+
+-- want of memory, or the limit on the bytes of a certificate
+abbrev pub IsUnwritten : Content → Stop → Type 0
+IsUnwritten c stop =
+    (stop ≡ NoMemory) ⊎ ((most_bytes 2 < length (text_of c)) × (stop ≡ Limit 33 268435456))

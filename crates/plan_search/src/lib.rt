@@ -1,0 +1,13 @@
+//! Solving a ground problem, from the problem to the bytes that are written and put.
+#![tactic(auto)]
+
+mod answer;
+mod answering;
+mod found;
+mod measured;
+mod solving;
+mod terms;
+
+pub use answer::Answer;
+pub use measured::Measured;
+pub use solving::{measure, solve};

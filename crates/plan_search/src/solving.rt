@@ -1,0 +1,80 @@
+//! Solving a ground problem.
+
+ghost use Rattle.std.specs.Prelude.{◌≡◌, ◌⊎◌, IfOk, IfErr};
+ghost use Rattle.closing_certificate.specs.Certificates.{HasNameLists};
+ghost use Rattle.bound_solver.specs.Solved.{IsSolved};
+ghost use Rattle.plan_request.specs.Laws.{IsEffort, AreSizes};
+ghost use Rattle.plan_stop.specs.declared.stop.Stop.TheVariants.{NoMemory};
+ghost use Rattle.plan_search.specs.Answers.{IsAnswerOf, IsMeasuredOf, IsTooLong};
+ghost use Rattle.plan_search.specs.Solving.{solver_effort, solver_sizes};
+
+use crate::answer::Answer;
+use crate::answering::{answer_of, measured_of};
+use crate::measured::Measured;
+use crate::terms::{solver_effort, solver_sizes};
+use bound_solver::Closing;
+use ground_model::GroundProblem;
+use plan_request::{Effort, Sizes};
+use plan_stop::Stop;
+use shelf_io::Gate;
+use std::alloc::{AllocError, Global};
+use std::thread::Threads;
+
+/// What a search leaves whose terms are those of a request.
+fn search<R: Threads + Sync, G: Gate>(
+    rt: &R,
+    alloc: Global,
+    problem: &GroundProblem,
+    effort: &Effort,
+    sizes: &Sizes,
+    gate: &G,
+) -> Result<Closing, AllocError>
+    requires effort { IsEffort effort.now }
+    requires sizes { AreSizes sizes.now }
+    ensures { IfOk result (IsSolved problem.now (solver_sizes sizes.now) (solver_effort effort.now)) }
+{
+    let effort = solver_effort(effort);
+    let sizes = solver_sizes(sizes);
+    bound_solver::solve(rt, alloc, problem, &sizes, &effort, gate)
+}
+
+/// Solves a ground problem: the text of a certificate of what was found, and the report.
+///
+/// It is refused for want of memory, and where the text would be above its greatest length.
+pub fn solve<R: Threads + Sync, G: Gate>(
+    rt: &R,
+    alloc: Global,
+    problem: &GroundProblem,
+    effort: &Effort,
+    sizes: &Sizes,
+    gate: &G,
+) -> Result<Answer, Stop>
+    requires names { HasNameLists problem.now }
+    requires effort { IsEffort effort.now }
+    requires sizes { AreSizes sizes.now }
+    ensures answer { IfOk result (IsAnswerOf problem.now effort.now sizes.now) }
+    ensures stops { IfErr result (λ stop. (stop ≡ NoMemory)
+        ⊎ IsTooLong problem.now effort.now sizes.now stop) }
+{
+    let closing = search(rt, alloc, problem, effort, sizes, gate)?;
+    answer_of(alloc, problem, effort, sizes, closing)
+}
+
+/// Solves a ground problem whose certificate is not asked for: the report alone, and no text of the certificate
+/// is made. It is refused for want of memory alone.
+pub fn measure<R: Threads + Sync, G: Gate>(
+    rt: &R,
+    alloc: Global,
+    problem: &GroundProblem,
+    effort: &Effort,
+    sizes: &Sizes,
+    gate: &G,
+) -> Result<Measured, AllocError>
+    requires names { HasNameLists problem.now }
+    requires effort { IsEffort effort.now }
+    requires sizes { AreSizes sizes.now }
+    ensures { IfOk result (IsMeasuredOf problem.now effort.now sizes.now) }
+{
+    let closing = search(rt, alloc, problem, effort, sizes, gate)?;
+    measured_of(alloc, problem, effort, sizes, closing)
+}

@@ -1,0 +1,40 @@
+//! What a request asks of a solver.
+
+ghost use Rattle.std.specs.Prelude.{◌≡◌};
+ghost use Rattle.plan_request.specs.Laws.{AreSizes};
+ghost use Rattle.plan_search.specs.Solving.{solver_effort, solver_sizes, all_ids};
+
+use plan_request::{Effort, Sizes};
+
+/// When a solver ends, and what its trials are.
+pub(crate) fn solver_effort(effort: &Effort) -> trial_workers::Effort
+    ensures { result ≡ solver_effort effort.now }
+{
+    trial_workers::Effort {
+        gap: effort.gap,
+        rounds: effort.rounds,
+        trials: effort.trials,
+        depth: effort.depth,
+        tau: effort.tau,
+        seed: effort.seed,
+    }
+}
+
+/// The sizes of a solver.
+pub(crate) fn solver_sizes(sizes: &Sizes) -> bound_solver::Sizes
+    ensures { result ≡ solver_sizes sizes.now }
+{
+    bound_solver::Sizes {
+        workers: sizes.workers,
+        states: sizes.states,
+        sweep_states: sizes.sweep_states,
+    }
+}
+
+/// How many ids the table has: one for each state, and one more for each worker.
+pub(crate) fn all_ids(sizes: &Sizes) -> u32
+    requires { AreSizes sizes.now }
+    ensures { result ≡ all_ids sizes.now }
+{
+    sizes.states + sizes.workers
+}
