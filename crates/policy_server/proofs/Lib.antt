@@ -1,0 +1,5 @@
+pub mod Spelled
+pub mod Looked
+pub mod Runs
+pub mod Turned
+pub mod Grammar
