@@ -3,8 +3,8 @@ use Rattle.std.proofs.Common.{◌≡◌, ℕ, true, false, Bool, List, Option, S
 use Rattle.std.specs.Prelude.{option_and_then, if◌then◌else◌}
 use Rattle.std.specs.Borrow.{Bor}
 use Rattle.command_words.specs.Shown.{texts_of}
-use Rattle.plan_request.specs.Asked.{Sources, Asked, to_check, to_ground, request_of}
-use Rattle.plan_request.specs.Laws.{AreTerms, RequestsAreInRange}
+use Rattle.plan_request.specs.Asked.{Sources, Solving, Asked, to_solve, to_check, to_ground, request_of}
+use Rattle.plan_request.specs.Laws.{AreTerms, IsSolving, RequestsAreInRange}
 use Rattle.plan_app.specs.Asking.{is_built, built, asked_by, Asks}
 
 if_is : (b : Bool) (x q : Asked) → (if b then Some x else None) ≡ Some q → Some x ≡ Some q
@@ -23,3 +23,6 @@ ground_terms law words s asks = law (texts_of words) (to_ground s) (request_is w
 
 pub check_terms : RequestsAreInRange → (words : List (Bor (List ℕ))) (s : Sources) (name : List ℕ) → Asks words (to_check s name) → AreTerms s
 check_terms law words s name asks = law (texts_of words) (to_check s name) (request_is words (to_check s name) asks)
+
+pub solve_range : RequestsAreInRange → (words : List (Bor (List ℕ))) (s : Solving) → Asks words (to_solve s) → IsSolving s
+solve_range law words s asks = law (texts_of words) (to_solve s) (request_is words (to_solve s) asks)

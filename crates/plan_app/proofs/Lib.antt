@@ -1,4 +1,7 @@
 pub mod Asked
 pub mod Flow
+pub mod Names
 pub mod Verdict
+pub mod Answering
 pub mod Statuses
+pub mod Solved

@@ -1,6 +1,7 @@
 -- What the status of an answer says of texts and of a certificate that a shelf tells.
-use Rattle.std.proofs.Common.{◌≡◌, ◌≢◌, ℕ, ◌⊎◌, inl, inr, List, refl, sym, ap, ◌∙◌, subst, arith, Option, Some, None, Result, Ok, Err}
+use Rattle.std.proofs.Common.{◌≡◌, ◌≢◌, ℕ, ◌⊎◌, inl, inr, Bool, true, false, List, refl, sym, ap, ◌∙◌, subst, arith, Option, Some, None, Result, Ok, Err}
 use Rattle.std.specs.Prelude.{◌↔◌}
+use Rattle.shelf_io.specs.Causes.{Rose}
 use Rattle.shelf_io.specs.Shelf.{Told, Holds, MayHold}
 use Rattle.certificate.specs.Content.{Content}
 use Rattle.certificate.specs.Laws.{TextsAreRead}
@@ -14,18 +15,24 @@ use Rattle.certificate_check.specs.Claims.{IsBalancedFor}
 use Rattle.certificate_check.specs.Laws.{AcceptedIsBalanced}
 use Rattle.certificate_check.specs.Verdicts.{IsVerdict}
 use Rattle.ground_model.specs.Ground.{Ground}
-use Rattle.plan_request.specs.Asked.{Sources, Asked, to_solve, to_check, to_serve, to_ground, to_bench}
+use Rattle.plan_request.specs.Asked.{Sources, Solving, Asked, to_solve, to_check, to_serve, to_ground, to_bench}
+use Rattle.plan_request.specs.declared.effort.Effort.{Effort}
+use Rattle.plan_request.specs.declared.sizes.Sizes.{Sizes}
+use Rattle.plan_report.specs.Line.{line_text}
 use Rattle.plan_report.specs.Reports.{accepted_text, ground_text}
 use Rattle.plan_stop.specs.declared.stop.Stop.{Stop}
-use Rattle.plan_stop.specs.declared.stop.Stop.TheVariants.{BadWords, ReadFailed, NoMemory, Refused, NotAccepted, Limit}
-use Rattle.plan_stop.specs.Stop.{Ending, ending_status, status_of, stop_of_certificate}
+use Rattle.plan_search.specs.Answers.{IsTooLong}
+use Rattle.plan_stop.specs.declared.report.Report.TheVariants.{Done}
+use Rattle.plan_stop.specs.declared.stop.Stop.TheVariants.{BadWords, ReadFailed, WriteFailed, NoMemory, Refused, NotAccepted, Limit}
+use Rattle.plan_stop.specs.Stop.{Ending, report_status, ending_status, status_of, stop_of_certificate}
 use Rattle.plan_sources.specs.declared.texts.Texts.{Texts}
 use Rattle.plan_sources.specs.Endings.{MayGive}
-use Rattle.plan_sources.specs.Problems.{stopped, problem_of}
+use Rattle.plan_sources.specs.Problems.{one_text, stopped, problem_of}
 use Rattle.plan_sources.specs.Sources.{MayGiveProblem, certificate_in}
 use Rattle.plan_sources.specs.Laws.{HoldsTexts, OneProblemIsTold, IsOfTexts, TextsStopSo}
 use Rattle.plan_sources.proofs.Telling.{told_held}
-use Rattle.plan_app.specs.Endings.{said_at, said_of, IsJudged, AnswersCheck, reported, Answers}
+use Rattle.plan_app.specs.Measuring.{line_sources}
+use Rattle.plan_app.specs.Endings.{said_at, said_of, said_by, IsJudged, IsTooLongSo, AnswersLine, AnswersCheck, AnswersSolve, reported, Answers}
 use Rattle.plan_app.specs.Verdicts.{sources_of, HasVerdict, IsRefused, IsLimited, IsGrounded, IsDecoded, IsAccepted, IsRejected}
 
 -- a status that an ending has, and one that it has not
@@ -38,13 +45,14 @@ no m n P other fails = ((λ is. absurd (other is)), (λ holds. absurd (fails hol
 -- ---- certificates
 
 -- what stops a run at the bytes of a certificate
-abbrev IsOfCertificate : Stop → Type 0
+abbrev pub IsOfCertificate : Stop → Type 0
 IsOfCertificate (NotAccepted code row) = Unit {0}
 IsOfCertificate NoMemory = Unit {0}
 IsOfCertificate (Refused code file line) = ⊥
 IsOfCertificate (Limit code most) = ⊥
 IsOfCertificate BadWords = ⊥
 IsOfCertificate ReadFailed = ⊥
+IsOfCertificate WriteFailed = ⊥
 
 refusal_stops : (e : CertRefusal) → IsOfCertificate (stop_of_certificate e)
 refusal_stops (refusal.Syntax line) = tt
@@ -58,7 +66,7 @@ read_stops : (r : Result Content CertRefusal) (stop : Stop) → stopped stop_of_
 read_stops (Ok c) stop is = absurd (cc is)
 read_stops (Err e) stop is = let same : stop_of_certificate e ≡ stop = cc is in subst IsOfCertificate same (refusal_stops e)
 
-certificate_stops : (bytes : List ℕ) (stop : Stop) → certificate_in bytes ≡ Err stop → IsOfCertificate stop
+pub certificate_stops : (bytes : List ℕ) (stop : Stop) → certificate_in bytes ≡ Err stop → IsOfCertificate stop
 certificate_stops bytes stop is = read_stops (read_of bytes) stop is
 
 read_so : (r : Result Content CertRefusal) (c : Content) → stopped stop_of_certificate r ≡ Ok c → r ≡ Ok c
@@ -75,122 +83,249 @@ accepted_number (Lower row) is = absurd (cc is)
 accepted_number (Upper row) is = absurd (cc is)
 
 -- a verdict's ending is a report, or that the certificate is not accepted
-said_status : (c : Content) (row : ℕ) (o : Option ℕ) → (ending_status (said_at c row o) ≡ 0) ⊎ (ending_status (said_at c row o) ≡ 7)
+pub said_status : (c : Content) (row : ℕ) (o : Option ℕ) → (ending_status (said_at c row o) ≡ 0) ⊎ (ending_status (said_at c row o) ≡ 7)
 said_status c row None = inl refl
 said_status c row (Some code) = inr refl
 
 -- ---- endings that texts lead to
 
--- the statuses behind a problem
-pub record IsOfProblem (status : ℕ) : Type 0 where
+-- the statuses behind a problem; that the text of a certificate is too long is the one reason for a limit there
+pub record IsOfProblem (long : Type 0) (status : ℕ) : Type 0 where
   pub not_words : status ≢ 2
   pub not_refused : status ≢ 6
-  pub not_limited : status ≢ 8
+  pub limited : status ≡ 8 → long
 
-abbrev Leads : Result Ground Stop → Ending → Type 0
-Leads (Err stop) e = Err stop ≡ e
-Leads (Ok g) e = IsOfProblem (ending_status e)
+abbrev Leads : (Ground → Type 0) → Result Ground Stop → Ending → Type 0
+Leads long (Err stop) e = Err stop ≡ e
+Leads long (Ok g) e = IsOfProblem (long g) (ending_status e)
 
-module _ (held : List ℕ → Told) where
-  seven_leads : (n : ℕ) → n ≡ 7 → IsOfProblem n
-  seven_leads n seven = record { not_words = λ e. omega (arith, e, seven); not_refused = λ e. omega (arith, e, seven); not_limited = λ e. omega (arith, e, seven) }
+-- why a certificate that a request may find is too long
+abbrev pub IsLongFor : Asked → Ground → Type 0
+IsLongFor (to_solve s) g = (stop : Stop) × IsTooLong g s.effort s.sizes stop
+IsLongFor (to_check s name) g = ⊥
+IsLongFor (to_serve s) g = ⊥
+IsLongFor (to_ground s) g = ⊥
+IsLongFor (to_bench places seed) g = ⊥
 
-  zero_leads : (n : ℕ) → n ≡ 0 → IsOfProblem n
-  zero_leads n zero = record { not_words = λ e. omega (arith, e, zero); not_refused = λ e. omega (arith, e, zero); not_limited = λ e. omega (arith, e, zero) }
+status_leads : (long : Type 0) (n m : ℕ) → n ≡ m → m ≢ 2 → m ≢ 6 → m ≢ 8 → IsOfProblem long n
+status_leads long n m is a b c = record {
+  not_words = λ e. a (sym is ∙ e);
+  not_refused = λ e. b (sym is ∙ e);
+  limited = λ e. absurd (c (sym is ∙ e));
+}
 
-  stop_leads : (stop : Stop) → IsOfCertificate stop → IsOfProblem (status_of stop)
-  stop_leads (NotAccepted code row) is = seven_leads 7 refl
-  stop_leads NoMemory is = record { not_words = λ e. omega (arith, e); not_refused = λ e. omega (arith, e); not_limited = λ e. omega (arith, e) }
-  stop_leads (Refused code file line) is = absurd is
-  stop_leads (Limit code most) is = absurd is
-  stop_leads BadWords is = absurd is
-  stop_leads ReadFailed is = absurd is
+zero_leads : (long : Type 0) (n : ℕ) → n ≡ 0 → IsOfProblem long n
+zero_leads long n is = status_leads long n 0 is (λ e. omega (arith, e)) (λ e. omega (arith, e)) (λ e. omega (arith, e))
 
-  judged_leads : (g : Ground) (r : Result Content Stop) (bytes : List ℕ) → certificate_in bytes ≡ r → (e : Ending) → IsJudged g r e
-      → IsOfProblem (ending_status e)
-  judged_leads g (Ok c) bytes read e (v, is, says) =
-      subst (λ e. IsOfProblem (ending_status e)) says
-      (elim (said_status c (row_of v) (number_of v)) [
-        | inl zero ↦ zero_leads (ending_status (said_of c v)) zero
-        | inr seven ↦ seven_leads (ending_status (said_of c v)) seven
-      ])
-  judged_leads g (Err stop) bytes read e says =
-      subst (λ e. IsOfProblem (ending_status e)) says (stop_leads stop (certificate_stops bytes stop read))
+one_leads : (long : Type 0) (n : ℕ) → n ≡ 1 → IsOfProblem long n
+one_leads long n is = status_leads long n 1 is (λ e. omega (arith, e)) (λ e. omega (arith, e)) (λ e. omega (arith, e))
 
-  check_leads : (name : List ℕ) (r : Result Ground Stop) (e : Ending) → AnswersCheck held name r e → Leads r e
+four_leads : (long : Type 0) (n : ℕ) → n ≡ 4 → IsOfProblem long n
+four_leads long n is = status_leads long n 4 is (λ e. omega (arith, e)) (λ e. omega (arith, e)) (λ e. omega (arith, e))
+
+five_leads : (long : Type 0) (n : ℕ) → n ≡ 5 → IsOfProblem long n
+five_leads long n is = status_leads long n 5 is (λ e. omega (arith, e)) (λ e. omega (arith, e)) (λ e. omega (arith, e))
+
+seven_leads : (long : Type 0) (n : ℕ) → n ≡ 7 → IsOfProblem long n
+seven_leads long n is = status_leads long n 7 is (λ e. omega (arith, e)) (λ e. omega (arith, e)) (λ e. omega (arith, e))
+
+eight_leads : (long : Type 0) (n : ℕ) → n ≡ 8 → long → IsOfProblem long n
+eight_leads long n is so = record { not_words = λ e. omega (arith, e, is); not_refused = λ e. omega (arith, e, is); limited = λ e. so }
+
+stop_leads : (long : Type 0) (stop : Stop) → IsOfCertificate stop → IsOfProblem long (status_of stop)
+stop_leads long (NotAccepted code row) is = seven_leads long 7 refl
+stop_leads long NoMemory is = five_leads long 5 refl
+stop_leads long (Refused code file line) is = absurd is
+stop_leads long (Limit code most) is = absurd is
+stop_leads long BadWords is = absurd is
+stop_leads long ReadFailed is = absurd is
+stop_leads long WriteFailed is = absurd is
+
+-- what is said of a search has status 0 or 1
+pub said_by_status : (b : Bool) (text : List ℕ) → (report_status (said_by b text) ≡ 0) ⊎ (report_status (said_by b text) ≡ 1)
+said_by_status true text = inl refl
+said_by_status false text = inr refl
+
+search_leads : (long : Type 0) (b : Bool) (text : List ℕ) (e : Ending) → Ok (said_by b text) ≡ e → IsOfProblem long (ending_status e)
+search_leads long b text e says =
+    subst (λ e. IsOfProblem long (ending_status e)) says
+    (elim (said_by_status b text) [
+      | inl zero ↦ zero_leads long (report_status (said_by b text)) zero
+      | inr one ↦ one_leads long (report_status (said_by b text)) one
+    ])
+
+long_leads : (g : Ground) (effort : Effort) (sizes : Sizes) (e : Ending) → IsTooLongSo g effort sizes e
+    → IsOfProblem ((stop : Stop) × IsTooLong g effort sizes stop) (ending_status e)
+long_leads g effort sizes e (stop, long, says) =
+    subst (λ e. IsOfProblem ((stop : Stop) × IsTooLong g effort sizes stop) (ending_status e)) says
+    (eight_leads ((stop : Stop) × IsTooLong g effort sizes stop) (status_of stop) (ap status_of long.stop_is) (stop, long))
+
+line_leads : (places seed : ℕ) (r : Result Ground Stop) (e : Ending) → AnswersLine places seed r e → Leads (IsLongFor (to_bench places seed)) r e
+line_leads places seed (Ok g) e measured = search_leads ⊥ measured.measured.converged _ e measured.says
+line_leads places seed (Err stop) e says = says
+
+judged_leads : (g : Ground) (r : Result Content Stop) (bytes : List ℕ) → certificate_in bytes ≡ r → (e : Ending) → IsJudged g r e
+    → IsOfProblem ⊥ (ending_status e)
+judged_leads g (Ok c) bytes read e (v, is, says) =
+    subst (λ e. IsOfProblem ⊥ (ending_status e)) says
+    (elim (said_status c (row_of v) (number_of v)) [
+      | inl zero ↦ zero_leads ⊥ (ending_status (said_of c v)) zero
+      | inr seven ↦ seven_leads ⊥ (ending_status (said_of c v)) seven
+    ])
+judged_leads g (Err stop) bytes read e says =
+    subst (λ e. IsOfProblem ⊥ (ending_status e)) says (stop_leads ⊥ stop (certificate_stops bytes stop read))
+
+-- a stop at texts
+stop_is_not_words : (stop : Stop) → IsOfTexts stop → status_of stop ≢ 2
+stop_is_not_words (Refused code file line) so = λ e. omega (arith, e)
+stop_is_not_words (Limit code most) so = λ e. omega (arith, e)
+stop_is_not_words BadWords so = absurd so
+stop_is_not_words ReadFailed so = absurd so
+stop_is_not_words WriteFailed so = absurd so
+stop_is_not_words NoMemory so = absurd so
+stop_is_not_words (NotAccepted code row) so = absurd so
+
+-- ---- over all requests
+
+module _ {S : Type 0} (held : S → List ℕ → Told) (writes : S → ℕ) (old new : S) where
+  solve_leads : (s : Solving) (r : Result Ground Stop) (e : Ending) → AnswersSolve held writes old new s r e → Leads (IsLongFor (to_solve s)) r e
+  solve_leads s (Ok g) e (inl wrote) = search_leads (IsLongFor (to_solve s) g) wrote.answer.converged _ e wrote.says
+  solve_leads s (Ok g) e (inr (inl long)) = long_leads g s.effort s.sizes e long
+  solve_leads s (Ok g) e (inr (inr (says, rose))) =
+      subst (λ e. IsOfProblem (IsLongFor (to_solve s) g) (ending_status e)) says (four_leads (IsLongFor (to_solve s) g) 4 refl)
+  solve_leads s (Err stop) e says = says
+
+  check_leads : (name : List ℕ) (r : Result Ground Stop) (e : Ending) → AnswersCheck (held old) name r e → Leads (λ g. ⊥) r e
   check_leads name (Ok g) e (rc, (bytes, holds, read), judged) = judged_leads g rc bytes read e judged
   check_leads name (Err stop) e says = says
 
-  ground_leads : (r : Result Ground Stop) (e : Ending) → reported held r ≡ e → Leads r e
-  ground_leads (Ok g) e says =
-      subst (λ e. IsOfProblem (ending_status e)) says (zero_leads 0 refl)
+  ground_leads : (r : Result Ground Stop) (e : Ending) → reported (held old) r ≡ e → Leads (λ g. ⊥) r e
+  ground_leads (Ok g) e says = subst (λ e. IsOfProblem ⊥ (ending_status e)) says (zero_leads ⊥ 0 refl)
   ground_leads (Err stop) e says = says
 
-  leads : (s : Sources) (q : Asked) → sources_of q ≡ Some s → (e : Ending) → Answers held q e
-      → (r : Result Ground Stop) × MayGiveProblem held s r × Leads r e
-  leads s (to_solve x) is e answers = absurd answers
+  leads : (s : Sources) (q : Asked) → sources_of q ≡ Some s → (e : Ending) → Answers held writes old new q e
+      → (r : Result Ground Stop) × MayGiveProblem (held old) s r × Leads (IsLongFor q) r e
   leads s (to_serve x) is e answers = absurd answers
-  leads s (to_bench places seed) is e answers = absurd answers
+  leads s (to_bench places seed) is e answers = absurd (cc is)
+  leads s (to_solve x) is e (r, given, rest) =
+      let same : x.sources ≡ s = cc is in
+      (r, subst (λ y. MayGiveProblem (held old) y r) same given, solve_leads x r e rest)
   leads s (to_check x name) is e (r, given, rest) =
       let same : x ≡ s = cc is in
-      (r, subst (λ y. MayGiveProblem held y r) same given, check_leads name r e rest)
+      (r, subst (λ y. MayGiveProblem (held old) y r) same given, check_leads name r e rest)
   leads s (to_ground x) is e (r, given, rest) =
       let same : x ≡ s = cc is in
-      (r, subst (λ y. MayGiveProblem held y r) same given, ground_leads r e rest)
+      (r, subst (λ y. MayGiveProblem (held old) y r) same given, ground_leads r e rest)
 
   -- words that ask for something are no bad words
-  led_words : (s : Sources) → TextsStopSo → (r : Result Ground Stop) → MayGiveProblem held s r → (e : Ending) → Leads r e → ending_status e ≢ 2
-  led_words s stops (Ok g) given e of = of.not_words
-  led_words s stops (Err stop) (t, are, is) e says =
-      subst (λ e. ending_status e ≢ 2) says (stop_is_not_words stop (stops s t stop is))
-    where
-      stop_is_not_words : (stop : Stop) → IsOfTexts stop → status_of stop ≢ 2
-      stop_is_not_words (Refused code file line) so = λ e. omega (arith, e)
-      stop_is_not_words (Limit code most) so = λ e. omega (arith, e)
-      stop_is_not_words BadWords so = absurd so
-      stop_is_not_words ReadFailed so = absurd so
-      stop_is_not_words NoMemory so = absurd so
-      stop_is_not_words (NotAccepted code row) so = absurd so
+  led_words : (s : Sources) (t : Texts) (long : Ground → Type 0) → TextsStopSo → (r : Result Ground Stop) → problem_of s t ≡ r
+      → (e : Ending) → Leads long r e → ending_status e ≢ 2
+  led_words s t long stops (Ok g) is e of = of.not_words
+  led_words s t long stops (Err stop) is e says = subst (λ e. ending_status e ≢ 2) says (stop_is_not_words stop (stops s t stop is))
 
-  pub answers_words : TextsStopSo → (q : Asked) (e : Ending) → Answers held q e → ending_status e ≢ 2
-  answers_words stops (to_solve x) e answers = absurd answers
+  pub answers_words : TextsStopSo → (q : Asked) (e : Ending) → Answers held writes old new q e → ending_status e ≢ 2
   answers_words stops (to_serve x) e answers = absurd answers
-  answers_words stops (to_bench places seed) e answers = absurd answers
-  answers_words stops (to_check s name) e (r, given, rest) = led_words s stops r given e (check_leads name r e rest)
-  answers_words stops (to_ground s) e (r, given, rest) = led_words s stops r given e (ground_leads r e rest)
+  answers_words stops (to_bench places seed) e (r, given, rest) =
+      led_words line_sources (one_text (line_text places seed)) (IsLongFor (to_bench places seed)) stops r given e (line_leads places seed r e rest)
+  answers_words stops (to_solve s) e (r, (t, are, is), rest) =
+      led_words s.sources t (IsLongFor (to_solve s)) stops r is e (solve_leads s r e rest)
+  answers_words stops (to_check s name) e (r, (t, are, is), rest) = led_words s t (λ g. ⊥) stops r is e (check_leads name r e rest)
+  answers_words stops (to_ground s) e (r, (t, are, is), rest) = led_words s t (λ g. ⊥) stops r is e (ground_leads r e rest)
 
+  -- a certificate that was not written is one of a search
+  texts_unwritten : TextsStopSo → (s : Sources) (t : Texts) (r : Result Ground Stop) → problem_of s t ≡ r → (stop : Stop) → r ≡ Err stop
+      → stop ≡ WriteFailed → ⊥
+  texts_unwritten stops s t r is stop says same =
+      subst IsOfTexts same (stops s t stop (subst (λ x. problem_of s t ≡ x) says is))
+
+  long_unwritten : (g : Ground) (effort : Effort) (sizes : Sizes) → IsTooLongSo g effort sizes (Err WriteFailed) → ⊥
+  long_unwritten g effort sizes (stop, long, says) = omega (arith, ap ending_status says, ap status_of long.stop_is)
+
+  certificate_unwritten : (stop : Stop) → IsOfCertificate stop → stop ≡ WriteFailed → ⊥
+  certificate_unwritten stop is same = subst IsOfCertificate same is
+
+  judged_unwritten : (g : Ground) (r : Result Content Stop) (bytes : List ℕ) → certificate_in bytes ≡ r → IsJudged g r (Err WriteFailed) → ⊥
+  judged_unwritten g (Ok c) bytes read (v, so, says) = elim (said_status c (row_of v) (number_of v)) [
+    | inl zero ↦ omega (arith, zero, ap ending_status says)
+    | inr seven ↦ omega (arith, seven, ap ending_status says)
+  ]
+  judged_unwritten g (Err stop) bytes read says = certificate_unwritten stop (certificate_stops bytes stop read) (cc says)
+
+  solve_unwritten : (s : Solving) (r : Result Ground Stop) → ((stop : Stop) → r ≡ Err stop → stop ≡ WriteFailed → ⊥)
+      → AnswersSolve held writes old new s r (Err WriteFailed) → Rose (writes old) (writes new)
+  solve_unwritten s (Ok g) so (inl wrote) = absurd (cc wrote.says)
+  solve_unwritten s (Ok g) so (inr (inl long)) = absurd (long_unwritten g s.effort s.sizes long)
+  solve_unwritten s (Ok g) so (inr (inr (says, rose))) = rose
+  solve_unwritten s (Err stop) so says = absurd (so stop refl (cc says))
+
+  check_unwritten : (name : List ℕ) (r : Result Ground Stop) → ((stop : Stop) → r ≡ Err stop → stop ≡ WriteFailed → ⊥)
+      → AnswersCheck (held old) name r (Err WriteFailed) → ⊥
+  check_unwritten name (Ok g) so (rc, (bytes, holds, read), is) = judged_unwritten g rc bytes read is
+  check_unwritten name (Err stop) so says = so stop refl (cc says)
+
+  ground_unwritten : (r : Result Ground Stop) → ((stop : Stop) → r ≡ Err stop → stop ≡ WriteFailed → ⊥)
+      → reported (held old) r ≡ Err WriteFailed → ⊥
+  ground_unwritten (Ok g) so says = cc says
+  ground_unwritten (Err stop) so says = so stop refl (cc says)
+
+  line_unwritten : (places seed : ℕ) (r : Result Ground Stop) → ((stop : Stop) → r ≡ Err stop → stop ≡ WriteFailed → ⊥)
+      → AnswersLine places seed r (Err WriteFailed) → ⊥
+  line_unwritten places seed (Ok g) so measured = cc measured.says
+  line_unwritten places seed (Err stop) so says = so stop refl (cc says)
+
+  pub unwritten : TextsStopSo → (q : Asked) → Answers held writes old new q (Err WriteFailed)
+      → (s : Solving) × (q ≡ to_solve s) × Rose (writes old) (writes new)
+  unwritten stops (to_solve s) (r, (t, are, is), rest) = (s, refl, solve_unwritten s r (texts_unwritten stops s.sources t r is) rest)
+  unwritten stops (to_check s name) (r, (t, are, is), rest) = absurd (check_unwritten name r (texts_unwritten stops s t r is) rest)
+  unwritten stops (to_serve s) answers = absurd answers
+  unwritten stops (to_ground s) (r, (t, are, is), rest) = absurd (ground_unwritten r (texts_unwritten stops s t r is) rest)
+  unwritten stops (to_bench places seed) (r, is, rest) =
+      absurd (line_unwritten places seed r (texts_unwritten stops line_sources (one_text (line_text places seed)) r is) rest)
+
+-- what a status says of texts
+pub record SaysOfTexts (s : Sources) (t : Texts) (long : Ground → Type 0) (status : ℕ) : Type 0 where
+  pub refused : (status ≡ 6) ↔ IsRefused s t
+  pub limited : IsLimited s t → status ≡ 8
+  pub limited_only : status ≡ 8 → IsLimited s t ⊎ ((g : Ground) × (problem_of s t ≡ Ok g) × long g)
+
+module _ (stops : TextsStopSo) (s : Sources) (t : Texts) where
+  stop_verdict : (long : Ground → Type 0) (stop : Stop) → problem_of s t ≡ Err stop → IsOfTexts stop → SaysOfTexts s t long (status_of stop)
+  stop_verdict long (Refused code file line) is so = record {
+    refused = yes 6 (IsRefused s t) (code, file, line, is);
+    limited = λ limited. absurd (cc (is, limited.2));
+    limited_only = λ e. absurd (omega (arith, e));
+  }
+  stop_verdict long (Limit code most) is so = record {
+    refused = no 8 6 (IsRefused s t) (λ e. omega (arith, e)) (λ refused. cc (is, refused.3));
+    limited = λ limited. refl;
+    limited_only = λ e. inl (code, most, is);
+  }
+  stop_verdict long BadWords is so = absurd so
+  stop_verdict long ReadFailed is so = absurd so
+  stop_verdict long WriteFailed is so = absurd so
+  stop_verdict long NoMemory is so = absurd so
+  stop_verdict long (NotAccepted code row) is so = absurd so
+
+  led_verdict : (long : Ground → Type 0) (r : Result Ground Stop) (e : Ending) → problem_of s t ≡ r → Leads long r e
+      → SaysOfTexts s t long (ending_status e)
+  led_verdict long (Ok g) e is of = record {
+    refused = no (ending_status e) 6 (IsRefused s t) of.not_refused (λ refused. cc (is, refused.3));
+    limited = λ limited. absurd (cc (is, limited.2));
+    limited_only = λ eight. inr (g, is, of.limited eight);
+  }
+  led_verdict long (Err stop) e is says =
+      subst (λ e. SaysOfTexts s t long (ending_status e)) says (stop_verdict long stop is (stops s t stop is))
+
+module _ {S : Type 0} (held : S → List ℕ → Told) (writes : S → ℕ) (old new : S) (told : OneProblemIsTold) (stops : TextsStopSo) where
+  -- what the status says of the texts
+  pub text_verdict : (s : Sources) (t : Texts) → HoldsTexts (held old) s t → (q : Asked) → sources_of q ≡ Some s → (e : Ending)
+      → Answers held writes old new q e → SaysOfTexts s t (IsLongFor q) (ending_status e)
+  text_verdict s t texts q is e answers =
+      let led = leads held writes old new s q is e answers in
+      led_verdict stops s t (IsLongFor q) led.0 e (told (held old) s t texts led.0 led.1) led.2
+
+module _ (held : List ℕ → Told) where
   module _ (told : OneProblemIsTold) (stops : TextsStopSo) (s : Sources) (t : Texts) (texts : HoldsTexts held s t) where
-    abbrev BySix : Ending → Type 0
-    BySix e = ((ending_status e ≡ 6) ↔ IsRefused s t) × ((ending_status e ≡ 8) ↔ IsLimited s t)
-
-    stop_verdict : (stop : Stop) → problem_of s t ≡ Err stop → IsOfTexts stop → BySix (Err stop)
-    stop_verdict (Refused code file line) is so = (
-      yes 6 (IsRefused s t) (code, file, line, is),
-      no 6 8 (IsLimited s t) (λ e. omega (arith, e)) (λ limited. cc (is, limited.2)),
-    )
-    stop_verdict (Limit code most) is so = (
-      no 8 6 (IsRefused s t) (λ e. omega (arith, e)) (λ refused. cc (is, refused.3)),
-      yes 8 (IsLimited s t) (code, most, is),
-    )
-    stop_verdict BadWords is so = absurd so
-    stop_verdict ReadFailed is so = absurd so
-    stop_verdict NoMemory is so = absurd so
-    stop_verdict (NotAccepted code row) is so = absurd so
-
-    led_verdict : (r : Result Ground Stop) (e : Ending) → problem_of s t ≡ r → Leads r e → BySix e
-    led_verdict (Ok g) e is of = (
-      no (ending_status e) 6 (IsRefused s t) of.not_refused (λ refused. cc (is, refused.3)),
-      no (ending_status e) 8 (IsLimited s t) of.not_limited (λ limited. cc (is, limited.2)),
-    )
-    led_verdict (Err stop) e is says = subst BySix says (stop_verdict stop is (stops s t stop is))
-
-    -- what the status says of the texts
-    pub text_verdict : (q : Asked) → sources_of q ≡ Some s → (e : Ending) → Answers held q e
-        → ((ending_status e ≡ 6) ↔ IsRefused s t) × ((ending_status e ≡ 8) ↔ IsLimited s t)
-    text_verdict q is e answers =
-        let led = leads s q is e answers in
-        led_verdict led.0 e (told held s t texts led.0 led.1) led.2
-
     -- ---- `ground`
 
     stop_is_not_zero : (stop : Stop) → IsOfTexts stop → (status_of stop ≢ 0) × (status_of stop ≢ 7)
@@ -198,6 +333,7 @@ module _ (held : List ℕ → Told) where
     stop_is_not_zero (Limit code most) so = ((λ e. omega (arith, e)), (λ e. omega (arith, e)))
     stop_is_not_zero BadWords so = absurd so
     stop_is_not_zero ReadFailed so = absurd so
+    stop_is_not_zero WriteFailed so = absurd so
     stop_is_not_zero NoMemory so = absurd so
     stop_is_not_zero (NotAccepted code row) so = absurd so
 
@@ -206,18 +342,21 @@ module _ (held : List ℕ → Told) where
     reported_verdict (Err stop) is =
         no (status_of stop) 0 (IsGrounded s t) (stop_is_not_zero stop (stops s t stop is)).0 (λ grounded. cc (is, grounded.1))
 
-    pub ground_verdict : (e : Ending) → Answers held (to_ground s) e → (ending_status e ≡ 0) ↔ IsGrounded s t
+    abbrev pub GroundEnds : Ending → Type 0
+    GroundEnds e = (r : Result Ground Stop) × MayGiveProblem held s r × (reported held r ≡ e)
+
+    pub ground_verdict : (e : Ending) → GroundEnds e → (ending_status e ≡ 0) ↔ IsGrounded s t
     ground_verdict e (r, given, says) =
         subst (λ e. (ending_status e ≡ 0) ↔ IsGrounded s t) says (reported_verdict r (told held s t texts r given))
 
     -- the problem that is reported
     reported_so : (r : Result Ground Stop) → problem_of s t ≡ r → ending_status (reported held r) ≡ 0
-        → (g : Ground) × (problem_of s t ≡ Ok g) × (reported held r ≡ Ok (ground_text g))
+        → (g : Ground) × (problem_of s t ≡ Ok g) × (reported held r ≡ Ok (Done (ground_text g)))
     reported_so (Ok g) is zero = (g, is, refl)
     reported_so (Err stop) is zero = absurd ((stop_is_not_zero stop (stops s t stop is)).0 zero)
 
-    pub ground_reported : (e : Ending) → Answers held (to_ground s) e → ending_status e ≡ 0
-        → (g : Ground) × (problem_of s t ≡ Ok g) × (e ≡ Ok (ground_text g))
+    pub ground_reported : (e : Ending) → GroundEnds e → ending_status e ≡ 0
+        → (g : Ground) × (problem_of s t ≡ Ok g) × (e ≡ Ok (Done (ground_text g)))
     ground_reported e (r, given, says) zero =
         let so = reported_so r (told held s t texts r given) (ap ending_status says ∙ zero) in
         (so.0, so.1, sym says ∙ so.2)
@@ -285,6 +424,7 @@ module _ (held : List ℕ → Told) where
       unread_verdict g is (Limit code most) unread so verdict = absurd so
       unread_verdict g is BadWords unread so verdict = absurd so
       unread_verdict g is ReadFailed unread so verdict = absurd so
+      unread_verdict g is WriteFailed unread so verdict = absurd so
 
       judged_verdict : (g : Ground) → problem_of s t ≡ Ok g → (r : Result Content Stop) → certificate_in f ≡ r → (e : Ending)
           → IsJudged g r e → HasVerdict (ending_status e) → BySeven e
@@ -309,14 +449,17 @@ module _ (held : List ℕ → Told) where
             ) in
             subst BySeven says none
 
+        abbrev pub CheckEnds : Ending → Type 0
+        CheckEnds e = (r : Result Ground Stop) × MayGiveProblem held s r × AnswersCheck held name r e
+
         -- what the status says of the certificate's bytes
-        pub check_verdict : (e : Ending) → Answers held (to_check s name) e → HasVerdict (ending_status e)
+        pub check_verdict : (e : Ending) → CheckEnds e → HasVerdict (ending_status e)
             → ((ending_status e ≡ 0) ↔ IsAccepted s t f) × ((ending_status e ≡ 7) ↔ IsRejected s t f)
         check_verdict e (r, given, rest) verdict = answer_verdict r (told held s t texts r given) e rest verdict
 
         -- the certificate whose report is put
         abbrev pub IsReported : Ending → Type 0
-        IsReported e = (g : Ground) × (c : Content) × (problem_of s t ≡ Ok g) × IsDecoded f c × IsBalancedFor g c × (e ≡ Ok (accepted_text c))
+        IsReported e = (g : Ground) × (c : Content) × (problem_of s t ≡ Ok g) × IsDecoded f c × IsBalancedFor g c × (e ≡ Ok (Done (accepted_text c)))
 
         said_reported : (g : Ground) → problem_of s t ≡ Ok g → (c : Content) → read_of f ≡ Ok c → (v : Verdict) → IsVerdict g c v
             → (o : Option ℕ) → number_of v ≡ o → ending_status (said_at c (row_of v) o) ≡ 0 → IsReported (said_at c (row_of v) o)
@@ -340,11 +483,12 @@ module _ (held : List ℕ → Told) where
             stop_not_zero (Limit code most) so = absurd so
             stop_not_zero BadWords so = absurd so
             stop_not_zero ReadFailed so = absurd so
+            stop_not_zero WriteFailed so = absurd so
 
         answer_reported : (r : Result Ground Stop) → problem_of s t ≡ r → (e : Ending) → AnswersCheck held name r e → ending_status e ≡ 0
             → IsReported e
         answer_reported (Ok g) is e (rc, gives, judged) zero = judged_reported g is rc (read_told rc gives) e judged zero
         answer_reported (Err stop) is e says zero = absurd ((stop_is_not_zero stop (stops s t stop is)).0 (ap ending_status says ∙ zero))
 
-        pub check_reported : (e : Ending) → Answers held (to_check s name) e → ending_status e ≡ 0 → IsReported e
+        pub check_reported : (e : Ending) → CheckEnds e → ending_status e ≡ 0 → IsReported e
         check_reported e (r, given, rest) zero = answer_reported r (told held s t texts r given) e rest zero

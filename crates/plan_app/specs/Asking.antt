@@ -11,11 +11,11 @@ use Rattle.command_words.specs.Shown.{texts_of}
 use Rattle.plan_request.specs.Asked.{Asked, to_solve, to_check, to_serve, to_ground, to_bench, request_of}
 
 abbrev pub is_built : Asked → Bool
-is_built (to_solve s) = false
+is_built (to_solve s) = true
 is_built (to_check s name) = true
 is_built (to_serve s) = false
 is_built (to_ground s) = true
-is_built (to_bench places seed) = false
+is_built (to_bench places seed) = true
 
 abbrev pub built : Asked → Option Asked
 built q = if is_built q then Some q else None

@@ -1,38 +1,59 @@
--- How a run ends: with what status, and what it puts. It is said here once, over all commands: of a command `Lacks` has a line, `Answers`
--- has one, and `CallsFor` has one.
+-- How a run ends: with what status, what it puts, and what it leaves. It is said here once, over all commands: of a command `Lacks`
+-- has a line, and so have `Answers`, `Leaves` and `CallsFor`.
 --     said_of c v                 what is said of a certificate at this verdict: its report, or what is not accepted
 --     IsJudged g r e              the same of a certificate that was read, or of bytes that are none
+--     said_by converged text      what is said of a search: its report, and whether the interval is as narrow as was asked for
+--     IsTooLongSo g effort sizes e
+--                                 the text of a certificate that such a search may find is above its limit
 --     Lacks held q                a name is missing where a request asks for it: a certificate behind texts with a ground problem alone
---     Answers held q e            the ending of a request by what the texts say, and the certificate behind them
+--     IsWritten .. s g e          a certificate that was found is held under its name, and its report is said
+--     IsUnwritten .. e            the count of failed writes rose
+--     IsMeasured places seed g e  the report of the search that measures the program
+--     Answers .. q e              the ending of a request by what the texts say, and the certificate behind them
 --     MayEndRequest .. q e        the same, or want of memory, or a failed read
 --     MayEndWords .. asked e      words with this request, if any, may end so
 --     MayEndAs .. words .. status text
 --                                 a run with these words may end with this status and this text
+--     Faults .. q                 a count of faults rose that such a request may raise
+--     OnlyWrites .. s             under the name of the certificate all is as it was, or the text of one that was found is held, or a
+--                                 write failed; no other name changes
+--     Leaves .. q, LeavesForWords .. asked
+--                                 what is held afterwards, and which counts of faults rose
 --     CallsFor .. q, CallsForWords .. asked
 --                                 how often the shelf is asked
--- Sources: for certificates, sub- and super-solutions of the Bellman equation (decision_process); for ground problems, grounding.
-use Rattle.std.specs.Prelude.{◌≡◌, ◌+◌, ◌≤◌, ◌⊎◌, ℕ, List, Option, Some, None, Result, Ok, Err}
+-- Sources: for certificates, sub- and super-solutions of the Bellman equation (decision_process); for ground problems, grounding; for
+-- searches, BRTDP (McMahan, Likhachev and Gordon 2005).
+use Rattle.std.specs.Prelude.{◌≡◌, ◌≢◌, ◌+◌, ◌≤◌, ◌⊎◌, ℕ, Bool, if◌then◌else◌, List, ◌++◌, Option, Some, None, Result, Ok, Err}
 use Rattle.std.specs.Borrow.{Bor}
-use Rattle.shelf_io.specs.Shelf.{Told, Missing}
+use Rattle.shelf_io.specs.Causes.{Rose, RisesByOneAtMost}
+use Rattle.shelf_io.specs.Shelf.{Told, Missing, written}
 use Rattle.certificate.specs.Content.{Content}
 use Rattle.certificate_check.specs.declared.verdict.Verdict.{Verdict}
 use Rattle.certificate_check.specs.Codes.{number_of, row_of}
 use Rattle.certificate_check.specs.Verdicts.{IsVerdict}
 use Rattle.ground_model.specs.Ground.{Ground}
-use Rattle.plan_request.specs.Asked.{Sources, Asked, to_solve, to_check, to_serve, to_ground, to_bench}
+use Rattle.plan_request.specs.declared.effort.Effort.{Effort}
+use Rattle.plan_request.specs.declared.sizes.Sizes.{Sizes}
+use Rattle.plan_request.specs.Asked.{Sources, Solving, Asked, to_solve, to_check, to_serve, to_ground, to_bench}
 use Rattle.plan_report.specs.Reports.{accepted_text, ground_text}
+use Rattle.plan_search.specs.declared.answer.Answer.{Answer}
+use Rattle.plan_search.specs.declared.measured.Measured.{Measured}
+use Rattle.plan_search.specs.Answers.{IsAnswerOf, IsMeasuredOf, IsTooLong}
+use Rattle.plan_stop.specs.declared.report.Report.{Report}
+use Rattle.plan_stop.specs.declared.report.Report.TheVariants.{Done, GapLeft}
 use Rattle.plan_stop.specs.declared.stop.Stop.{Stop}
-use Rattle.plan_stop.specs.declared.stop.Stop.TheVariants.{BadWords, NoMemory, NotAccepted}
+use Rattle.plan_stop.specs.declared.stop.Stop.TheVariants.{BadWords, WriteFailed, NoMemory, NotAccepted}
 use Rattle.plan_stop.specs.Stop.{Ending, ending_status, ending_text}
-use Rattle.plan_sources.specs.Endings.{MayEnd, MayGive, IsFault}
+use Rattle.plan_sources.specs.Endings.{MayEnd, MayGive, IsFault, OnlyRead}
 use Rattle.plan_sources.specs.Problems.{text_count}
 use Rattle.plan_sources.specs.Sources.{LacksText, MayGiveProblem, certificate_in}
 use Rattle.plan_app.specs.Asking.{asked_by}
+use Rattle.plan_app.specs.Measuring.{line_problem, bench_effort, bench_sizes, bench_line}
 
 -- ---- what is said of a certificate
 
 abbrev pub said_at : Content → ℕ → Option ℕ → Ending
-said_at c row None = Ok (accepted_text c)
+said_at c row None = Ok (Done (accepted_text c))
 said_at c row (Some code) = Err (NotAccepted code row)
 
 abbrev pub said_of : Content → Verdict → Ending
@@ -42,6 +63,27 @@ abbrev pub IsJudged : Ground → Result Content Stop → Ending → Type 0
 IsJudged g (Ok c) e = (v : Verdict) × IsVerdict g c v × (said_of c v ≡ e)
 IsJudged g (Err stop) e = Err stop ≡ e
 
+-- ---- what is said of a search
+
+abbrev pub said_by : Bool → List ℕ → Report
+said_by converged text = if converged then Done text else GapLeft text
+
+abbrev pub IsTooLongSo : Ground → Effort → Sizes → Ending → Type 0
+IsTooLongSo g effort sizes e = (stop : Stop) × IsTooLong g effort sizes stop × (Err stop ≡ e)
+
+module _ (places seed : ℕ) where
+  pub record IsMeasured (g : Ground) (e : Ending) : Type 0 where
+    pub measured : Measured
+    pub is_measured : IsMeasuredOf g (bench_effort seed) bench_sizes measured
+    pub says : Ok (said_by measured.converged (bench_line places seed ++ measured.report)) ≡ e
+
+  abbrev pub AnswersLine : Result Ground Stop → Ending → Type 0
+  AnswersLine (Ok g) e = IsMeasured g e
+  AnswersLine (Err stop) e = Err stop ≡ e
+
+  abbrev pub AnswersBench : Ending → Type 0
+  AnswersBench e = (r : Result Ground Stop) × (line_problem places seed ≡ r) × AnswersLine r e
+
 -- ---- by what a shelf holds
 
 module _ (held : List ℕ → Told) where
@@ -50,39 +92,89 @@ module _ (held : List ℕ → Told) where
   AnswersCheck name (Err stop) e = Err stop ≡ e
 
   abbrev pub reported : Result Ground Stop → Ending
-  reported (Ok g) = Ok (ground_text g)
+  reported (Ok g) = Ok (Done (ground_text g))
   reported (Err stop) = Err stop
 
   abbrev pub HasProblem : Sources → Type 0
   HasProblem s = (g : Ground) × MayGiveProblem held s (Ok g)
 
   abbrev pub Lacks : Asked → Type 0
-  Lacks (to_solve s) = ⊥
+  Lacks (to_solve s) = LacksText held s.sources
   Lacks (to_check s name) = LacksText held s ⊎ ((held name ≡ Missing) × HasProblem s)
   Lacks (to_serve s) = ⊥
   Lacks (to_ground s) = LacksText held s
   Lacks (to_bench places seed) = ⊥
 
+-- ---- by what a shelf held before and after, and by its count of failed writes
+
+module _ {S : Type 0} (held : S → List ℕ → Told) (writes : S → ℕ) (old new : S) where
+  pub record IsWritten (s : Solving) (g : Ground) (e : Ending) : Type 0 where
+    pub answer : Answer
+    pub is_answer : IsAnswerOf g s.effort s.sizes answer
+    pub holds : held new s.certificate ≡ written (held old s.certificate) answer.certificate
+    pub says : Ok (said_by answer.converged answer.report) ≡ e
+
+  abbrev pub IsUnwritten : Ending → Type 0
+  IsUnwritten e = (Err WriteFailed ≡ e) × Rose (writes old) (writes new)
+
+  abbrev pub AnswersSolve : Solving → Result Ground Stop → Ending → Type 0
+  AnswersSolve s (Ok g) e = IsWritten s g e ⊎ (IsTooLongSo g s.effort s.sizes e ⊎ IsUnwritten e)
+  AnswersSolve s (Err stop) e = Err stop ≡ e
+
   abbrev pub Answers : Asked → Ending → Type 0
-  Answers (to_solve s) e = ⊥
-  Answers (to_check s name) e = (r : Result Ground Stop) × MayGiveProblem held s r × AnswersCheck name r e
+  Answers (to_solve s) e = (r : Result Ground Stop) × MayGiveProblem (held old) s.sources r × AnswersSolve s r e
+  Answers (to_check s name) e = (r : Result Ground Stop) × MayGiveProblem (held old) s r × AnswersCheck (held old) name r e
   Answers (to_serve s) e = ⊥
-  Answers (to_ground s) e = (r : Result Ground Stop) × MayGiveProblem held s r × (reported r ≡ e)
-  Answers (to_bench places seed) e = ⊥
+  Answers (to_ground s) e = (r : Result Ground Stop) × MayGiveProblem (held old) s r × (reported (held old) r ≡ e)
+  Answers (to_bench places seed) e = AnswersBench places seed e
 
--- ---- by what a shelf held, by its counts of failed reads, and by itself before and after
+-- ---- by its counts of failed reads and writes too
 
-module _ {S : Type 0} (held : S → List ℕ → Told) (reads : S → ℕ) (old new : S) where
+module _ {S : Type 0} (held : S → List ℕ → Told) (reads writes : S → ℕ) (old new : S) where
   abbrev pub MayEndRequest : Asked → Ending → Type 0
-  MayEndRequest q e = MayEnd (IsFault reads old new (Lacks (held old) q)) (Answers (held old) q) e
+  MayEndRequest q e = MayEnd (IsFault reads old new (Lacks (held old) q)) (Answers held writes old new q) e
 
   abbrev pub MayEndWords : Option Asked → Ending → Type 0
   MayEndWords None e = (e ≡ Err BadWords) ⊎ (e ≡ Err NoMemory)
   MayEndWords (Some q) e = MayEndRequest q e
 
-pub record MayEndAs {S : Type 0} (held : S → List ℕ → Told) (reads : S → ℕ) (words : List (Bor (List ℕ))) (old new : S) (status : ℕ) (text : List ℕ) : Type 0 where
+  -- a count rose that such a request may raise
+  abbrev pub Faults : Asked → Type 0
+  Faults (to_solve s) = Rose (reads old) (reads new) ⊎ Rose (writes old) (writes new)
+  Faults (to_check s name) = Rose (reads old) (reads new)
+  Faults (to_serve s) = Rose (reads old) (reads new) ⊎ Rose (writes old) (writes new)
+  Faults (to_ground s) = Rose (reads old) (reads new)
+  Faults (to_bench places seed) = Rose (reads old) (reads new)
+
+  -- the name holds the text of a certificate that was found
+  pub record IsHeld (s : Solving) : Type 0 where
+    pub g : Ground
+    pub problem : MayGiveProblem (held old) s.sources (Ok g)
+    pub answer : Answer
+    pub is_answer : IsAnswerOf g s.effort s.sizes answer
+    pub holds : held new s.certificate ≡ written (held old s.certificate) answer.certificate
+
+  -- under the name of the certificate all is as it was, or such a text is held, or a write failed
+  pub record OnlyWrites (s : Solving) : Type 0 where
+    pub certificate : (held new s.certificate ≡ held old s.certificate) ⊎ (IsHeld s ⊎ Rose (writes old) (writes new))
+    pub others : (name : List ℕ) → name ≢ s.certificate → held new name ≡ held old name
+    pub later : reads old ≤ reads new
+    pub writes_once : RisesByOneAtMost (writes old) (writes new)
+
+  abbrev pub Leaves : Asked → Type 0
+  Leaves (to_solve s) = OnlyWrites s
+  Leaves (to_check s name) = OnlyRead held reads writes old new
+  Leaves (to_serve s) = OnlyWrites s
+  Leaves (to_ground s) = OnlyRead held reads writes old new
+  Leaves (to_bench places seed) = new ≡ old
+
+  abbrev pub LeavesForWords : Option Asked → Type 0
+  LeavesForWords None = OnlyRead held reads writes old new
+  LeavesForWords (Some q) = Leaves q
+
+pub record MayEndAs {S : Type 0} (held : S → List ℕ → Told) (reads writes : S → ℕ) (words : List (Bor (List ℕ))) (old new : S) (status : ℕ) (text : List ℕ) : Type 0 where
   pub ending : Ending
-  pub may_end : MayEndWords held reads old new (asked_by words) ending
+  pub may_end : MayEndWords held reads writes old new (asked_by words) ending
   pub status_is : status ≡ ending_status ending
   pub text_is : text ≡ ending_text ending
 
@@ -90,16 +182,16 @@ pub record MayEndAs {S : Type 0} (held : S → List ℕ → Told) (reads : S →
 
 module _ {S : Type 0} (held : S → List ℕ → Told) (calls : S → ℕ) (old new : S) where
   -- once for each text, and once more behind texts that have a problem
-  pub record CallsForCheck (s : Sources) : Type 0 where
+  pub record CallsBehind (s : Sources) : Type 0 where
     pub most : calls new ≤ calls old + (text_count s + 1)
     pub texts_alone : (HasProblem (held old) s → ⊥) → calls new ≤ calls old + text_count s
 
   abbrev pub CallsFor : Asked → Type 0
-  CallsFor (to_solve s) = ⊥
-  CallsFor (to_check s name) = CallsForCheck s
-  CallsFor (to_serve s) = ⊥
+  CallsFor (to_solve s) = CallsBehind s.sources
+  CallsFor (to_check s name) = CallsBehind s
+  CallsFor (to_serve s) = CallsBehind s.sources
   CallsFor (to_ground s) = calls new ≤ calls old + text_count s
-  CallsFor (to_bench places seed) = ⊥
+  CallsFor (to_bench places seed) = calls new ≡ calls old
 
   abbrev pub CallsForWords : Option Asked → Type 0
   CallsForWords None = calls new ≡ calls old

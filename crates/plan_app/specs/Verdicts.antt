@@ -2,19 +2,23 @@
 --     TellsTexts words held s t     the words ask for something over the texts t, which the shelf tells
 --     TellsGround words held s t    they ask for their ground problem
 --     TellsCheck words held s t f   they ask for the check of the bytes f, which it tells too
+--     TellsSolve words held s t     they ask to solve it, and something is told of the name of the certificate
 --     HasVerdict status             the status speaks of the words or of bytes, and not of a fault or of memory
---     IsAnswer status               0, 6, 7 or 8, or want of memory
+--     HasReport status              a search ended, and its report was put
+--     answers_to q, IsAnswerTo q status
+--                                   the statuses of a request that meets no fault; 5 is want of memory
 --     IsRefused, IsLimited, IsGrounded s t
 --                                   the texts are outside the language; a quantity is above its limit; they have a ground problem
+--     MayBeTooLong words t          the words ask to solve it, and the text of a certificate that may be found is above its limit
 --     IsDecoded f c                 f is the text of the certificate c, of at most its version's greatest length
 --     IsAccepted, IsRejected s t f  f is, or is not, the text of a certificate that is balanced for the ground problem of the texts
 --     PutsProblem s t old new       the report of the ground problem was put, which stands for the task of the texts
 --     PutsReport s t f old new      such a certificate was accepted, and its report put: for the task of the texts it encloses the cost,
 --                                   and its policy ends
-use Rattle.std.specs.Prelude.{◌≡◌, ◌≢◌, ℕ, ◌*◌, ◌^◌, ◌≤◌, List, [], ◌∷◌, length, Option, Some, None, Ok, Err, Contains}
+use Rattle.std.specs.Prelude.{◌≡◌, ◌≢◌, ◌⊎◌, ℕ, ◌*◌, ◌^◌, ◌≤◌, List, [], ◌∷◌, length, Option, Some, None, Ok, Err, Contains}
 use Rattle.std.specs.Borrow.{Bor}
 use Rattle.std.specs.Io.KnownBytes.{Appends}
-use Rattle.shelf_io.specs.Shelf.{Told, Holds}
+use Rattle.shelf_io.specs.Shelf.{Told, Untold, Holds}
 use Rattle.certificate.specs.Content.{Content, IsTextOf, most_bytes}
 use Rattle.certificate_check.specs.Claims.{IsBalancedFor}
 use Rattle.decision_process.specs.Enclosing.{Encloses}
@@ -25,9 +29,11 @@ use Rattle.ppddl_model.specs.State.{State, same_state}
 use Rattle.ppddl_model.specs.Steps.{process, starts, start_den, step_den, least_step_cost}
 use Rattle.ground_model.specs.Ground.{Ground}
 use Rattle.task_certificates.specs.Carried.{task_certificate}
-use Rattle.plan_request.specs.Asked.{Sources, Asked, to_solve, to_check, to_serve, to_ground, to_bench}
+use Rattle.plan_request.specs.Asked.{Sources, Solving, Asked, to_solve, to_check, to_serve, to_ground, to_bench}
 use Rattle.plan_report.specs.Reports.{accepted_text, ground_text}
-use Rattle.plan_stop.specs.declared.status.TheConstants.{DONE, READ_FAILED, WRITE_FAILED, NO_MEMORY, REFUSED, NOT_ACCEPTED, LIMIT}
+use Rattle.plan_search.specs.Answers.{IsTooLong}
+use Rattle.plan_stop.specs.declared.status.TheConstants.{DONE, GAP_LEFT, READ_FAILED, WRITE_FAILED, NO_MEMORY, REFUSED, NOT_ACCEPTED, LIMIT}
+use Rattle.plan_stop.specs.declared.stop.Stop.{Stop}
 use Rattle.plan_stop.specs.declared.stop.Stop.TheVariants.{Refused, Limit}
 use Rattle.plan_sources.specs.declared.texts.Texts.{Texts}
 use Rattle.plan_sources.specs.Problems.{problem_of}
@@ -60,6 +66,12 @@ module _ (words : List (Bor (List ℕ))) (held : List ℕ → Told) (s : Sources
     pub texts : HoldsTexts held s t
     pub certificate : held name ≡ Holds f
 
+module _ (words : List (Bor (List ℕ))) (held : List ℕ → Told) (s : Solving) (t : Texts) where
+  pub record TellsSolve : Type 0 where
+    pub asks : Asks words (to_solve s)
+    pub texts : HoldsTexts held s.sources t
+    pub certificate : held s.certificate ≢ Untold
+
 -- ---- statuses
 
 pub record HasVerdict (status : ℕ) : Type 0 where
@@ -67,8 +79,18 @@ pub record HasVerdict (status : ℕ) : Type 0 where
   pub no_write_fault : status ≢ WRITE_FAILED
   pub enough_memory : status ≢ NO_MEMORY
 
-abbrev pub IsAnswer : ℕ → Type 0
-IsAnswer status = Contains (DONE ∷ NO_MEMORY ∷ REFUSED ∷ NOT_ACCEPTED ∷ LIMIT ∷ []) status
+abbrev pub HasReport : ℕ → Type 0
+HasReport status = (status ≡ DONE) ⊎ (status ≡ GAP_LEFT)
+
+abbrev pub answers_to : Asked → List ℕ
+answers_to (to_solve s) = DONE ∷ GAP_LEFT ∷ NO_MEMORY ∷ REFUSED ∷ LIMIT ∷ []
+answers_to (to_check s name) = DONE ∷ NO_MEMORY ∷ REFUSED ∷ NOT_ACCEPTED ∷ LIMIT ∷ []
+answers_to (to_serve s) = DONE ∷ GAP_LEFT ∷ NO_MEMORY ∷ REFUSED ∷ LIMIT ∷ []
+answers_to (to_ground s) = DONE ∷ NO_MEMORY ∷ REFUSED ∷ LIMIT ∷ []
+answers_to (to_bench places seed) = DONE ∷ GAP_LEFT ∷ NO_MEMORY ∷ REFUSED ∷ LIMIT ∷ []
+
+abbrev pub IsAnswerTo : Asked → ℕ → Type 0
+IsAnswerTo q status = Contains (answers_to q) status
 
 -- ---- texts
 
@@ -87,6 +109,14 @@ module _ (s : Sources) (t : Texts) where
     pub problem : problem_of s t ≡ Ok g
     pub of_task : StandsForTexts s t g
     pub put : Appends old new (ground_text g)
+
+pub record MayBeTooLong (words : List (Bor (List ℕ))) (t : Texts) : Type 0 where
+  pub solving : Solving
+  pub asks : Asks words (to_solve solving)
+  pub g : Ground
+  pub problem : problem_of solving.sources t ≡ Ok g
+  pub stop : Stop
+  pub too_long : IsTooLong g solving.effort solving.sizes stop
 
 -- ---- certificates
 

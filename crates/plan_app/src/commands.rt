@@ -7,50 +7,66 @@ ghost use Rattle.plan_request.specs.Shown.{shown_sources, shown_request};
 ghost use Rattle.plan_sources.specs.Endings.{OnlyRead};
 ghost use Rattle.plan_app.specs.Asking.{asked_by, built};
 ghost use Rattle.plan_app.specs.Endings.{MayEndRequest, MayEndWords, CallsFor, CallsForWords};
+ghost use Rattle.plan_app.specs.Endings.{LeavesForWords};
 
+use crate::benching::bench;
 use crate::judging::judge;
-use plain_list::Bytes;
+use crate::solving::solve;
 use plan_report::ground_report;
 use plan_request::{Request, Sources, request_laws, request_of};
 use plan_sources::{certificate_of, problem_of};
-use plan_stop::Stop;
-use shelf_io::Shelf;
+use plan_stop::{Report, Stop};
+use shelf_io::{Gate, Shelf};
 use std::alloc::Global;
+use std::thread::Threads;
 
 /// The report that these words ask for, or what stops the run.
-pub(crate) fn report_of<S: Shelf>(
+pub(crate) fn report_of<R: Threads + Sync, S: Shelf, G: Gate>(
+    rt: &R,
     alloc: Global,
     words: &[&str],
     shelf: &mut S,
-) -> Result<Bytes, Stop>
-    ensures ends { MayEndWords S.held S.read_faults shelf.old shelf.new (asked_by words.now) result }
+    gate: &G,
+) -> Result<Report, Stop>
+    ensures ends { MayEndWords S.held S.read_faults S.write_faults shelf.old shelf.new
+        (asked_by words.now) result }
     ensures calls { CallsForWords S.held S.calls shelf.old shelf.new (asked_by words.now) }
-    ensures shelf { OnlyRead S.held S.read_faults S.write_faults shelf.old shelf.new }
+    ensures shelf { LeavesForWords S.held S.read_faults S.write_faults shelf.old shelf.new
+        (asked_by words.now) }
 {
     request_laws();
     match request_of(alloc, words) {
         Ok(None) => Err(Stop::BadWords),
-        Ok(Some(request)) => answer(alloc, &request, shelf),
+        Ok(Some(request)) => answer(rt, alloc, &request, shelf, gate),
         Err(_) => Err(Stop::NoMemory),
     }
 }
 
 /// The report of a request, or what stops it. Commands that are not built yet have no request.
-fn answer<S: Shelf>(alloc: Global, request: &Request<'_>, shelf: &mut S) -> Result<Bytes, Stop>
+fn answer<R: Threads + Sync, S: Shelf, G: Gate>(
+    rt: &R,
+    alloc: Global,
+    request: &Request<'_>,
+    shelf: &mut S,
+    gate: &G,
+) -> Result<Report, Stop>
     requires { IsInRange (shown_request request.now) }
-    ensures ends { MayEndWords S.held S.read_faults shelf.old shelf.new
+    ensures ends { MayEndWords S.held S.read_faults S.write_faults shelf.old shelf.new
         (built (shown_request request.now)) result }
     ensures calls { CallsForWords S.held S.calls shelf.old shelf.new
         (built (shown_request request.now)) }
-    ensures shelf { OnlyRead S.held S.read_faults S.write_faults shelf.old shelf.new }
+    ensures shelf { LeavesForWords S.held S.read_faults S.write_faults shelf.old shelf.new
+        (built (shown_request request.now)) }
 {
     match request {
+        Request::Solve(solving) => solve(rt, alloc, solving, shelf, gate),
         Request::Check {
             sources,
             certificate,
         } => check(alloc, sources, certificate, shelf),
+        Request::Serve(_) => Err(Stop::BadWords),
         Request::Ground(sources) => ground(alloc, sources, shelf),
-        Request::Solve(_) | Request::Serve(_) | Request::Bench { .. } => Err(Stop::BadWords),
+        Request::Bench { places, seed } => bench(rt, alloc, *places, *seed, gate),
     }
 }
 
@@ -60,9 +76,9 @@ fn check<S: Shelf>(
     sources: &Sources<'_>,
     name: &str,
     shelf: &mut S,
-) -> Result<Bytes, Stop>
+) -> Result<Report, Stop>
     requires { AreTerms (shown_sources sources.now) }
-    ensures ends { MayEndRequest S.held S.read_faults shelf.old shelf.new
+    ensures ends { MayEndRequest S.held S.read_faults S.write_faults shelf.old shelf.new
         (to_check (shown_sources sources.now) name.now) result }
     ensures calls { CallsFor S.held S.calls shelf.old shelf.new
         (to_check (shown_sources sources.now) name.now) }
@@ -74,14 +90,14 @@ fn check<S: Shelf>(
 }
 
 /// The report of the ground problem of the texts.
-fn ground<S: Shelf>(alloc: Global, sources: &Sources<'_>, shelf: &mut S) -> Result<Bytes, Stop>
+fn ground<S: Shelf>(alloc: Global, sources: &Sources<'_>, shelf: &mut S) -> Result<Report, Stop>
     requires { AreTerms (shown_sources sources.now) }
-    ensures ends { MayEndRequest S.held S.read_faults shelf.old shelf.new
+    ensures ends { MayEndRequest S.held S.read_faults S.write_faults shelf.old shelf.new
         (to_ground (shown_sources sources.now)) result }
     ensures calls { CallsFor S.held S.calls shelf.old shelf.new
         (to_ground (shown_sources sources.now)) }
     ensures shelf { OnlyRead S.held S.read_faults S.write_faults shelf.old shelf.new }
 {
     let problem = problem_of(alloc, sources, shelf)?;
-    Ok(ground_report(alloc, &problem)?)
+    Ok(Report::Done(ground_report(alloc, &problem)?))
 }

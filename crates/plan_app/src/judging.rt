@@ -7,9 +7,8 @@ ghost use Rattle.plan_app.specs.Endings.{IsJudged};
 use certificate::Certificate;
 use certificate_check::check;
 use ground_model::GroundProblem;
-use plain_list::Bytes;
 use plan_report::check_report;
-use plan_stop::Stop;
+use plan_stop::{Report, Stop};
 use std::alloc::Global;
 
 /// The report of a certificate that is balanced for the problem, or the first condition that fails.
@@ -17,12 +16,12 @@ pub(crate) fn judge(
     alloc: Global,
     problem: &GroundProblem,
     certificate: &Certificate,
-) -> Result<Bytes, Stop>
+) -> Result<Report, Stop>
     ensures { MayEnd ⊥ (IsJudged problem.now (Ok certificate.now)) result }
 {
     let verdict = check(alloc, problem, certificate)?;
     match verdict.number() {
-        None => Ok(check_report(alloc, certificate)?),
+        None => Ok(Report::Done(check_report(alloc, certificate)?)),
         Some(code) => Err(Stop::NotAccepted {
             code,
             row: verdict.row(),

@@ -1,29 +1,32 @@
 //! The top call: all that the program does.
 
-ghost use Rattle.std.specs.Prelude.{◌≡◌, ◌≢◌, ◌⊎◌, ◌↔◌, ℕ, List};
+ghost use Rattle.std.specs.Prelude.{◌≡◌, ◌≢◌, ◌⊎◌, ◌↔◌, ℕ, List, Err};
 ghost use Rattle.std.specs.Io.KnownBytes.{Appends};
 ghost use Rattle.shelf_io.specs.Causes.{Rose};
 ghost use Rattle.shelf_io.specs.Streams.{PutsPrefix};
 ghost use Rattle.plan_stop.specs.declared.status.TheConstants.{DONE, BAD_WORDS, READ_FAILED};
 ghost use Rattle.plan_stop.specs.declared.status.TheConstants.{WRITE_FAILED, NO_MEMORY, REFUSED};
 ghost use Rattle.plan_stop.specs.declared.status.TheConstants.{NOT_ACCEPTED, LIMIT};
-ghost use Rattle.plan_request.specs.Asked.{Asked, Sources};
+ghost use Rattle.plan_stop.specs.declared.stop.Stop.TheVariants.{WriteFailed};
+ghost use Rattle.plan_request.specs.Asked.{Asked, Sources, Solving, to_solve, to_bench};
 ghost use Rattle.plan_sources.specs.declared.texts.Texts.{Texts};
-ghost use Rattle.plan_sources.specs.Endings.{OnlyRead};
 ghost use Rattle.plan_app.specs.Asking.{asked_by, Asks, AsksNothing};
-ghost use Rattle.plan_app.specs.Endings.{Lacks, MayEndAs, CallsForWords};
-ghost use Rattle.plan_app.specs.Verdicts.{TellsTexts, TellsGround, TellsCheck, HasVerdict};
+ghost use Rattle.plan_app.specs.Endings.{Lacks, Faults, MayEndAs, LeavesForWords, CallsForWords};
+ghost use Rattle.plan_app.specs.Verdicts.{TellsTexts, TellsGround, TellsCheck, TellsSolve};
+ghost use Rattle.plan_app.specs.Verdicts.{HasVerdict, HasReport, IsAnswerTo};
 ghost use Rattle.plan_app.specs.Verdicts.{IsRefused, IsLimited, IsGrounded, IsAccepted, IsRejected};
-ghost use Rattle.plan_app.specs.Verdicts.{IsAnswer, PutsProblem, PutsReport};
-ghost use Rattle.plan_app.specs.Putting.{SaysPut, SaysCutShort};
+ghost use Rattle.plan_app.specs.Verdicts.{MayBeTooLong, PutsProblem, PutsReport};
+ghost use Rattle.plan_app.specs.Solutions.{PutsSolution, PutsMeasure};
+ghost use Rattle.plan_app.specs.Putting.{PutsPart, SaysPut, SaysCutShort};
 
 use crate::commands::report_of;
 use certificate::text_laws;
 use certificate_check::check_laws;
-use plain_list::Bytes;
+use ground_stands::{same_level_laws, same_value_laws};
+use iteration_progress::task_progress_laws;
 use plan_request::request_laws;
 use plan_sources::source_laws;
-use plan_stop::{DONE, NO_MEMORY, Stop, WRITE_FAILED};
+use plan_stop::{NO_MEMORY, Report, Stop, WRITE_FAILED};
 use ppddl_model::task_laws;
 use shelf_io::{Gate, Shelf, Sink, Source, put_all};
 use std::alloc::Global;
@@ -32,7 +35,8 @@ use task_certificates::task_certificate_laws;
 
 /// Runs the program with the words behind its name, and answers its status.
 ///
-/// `check` and `ground` change nothing on the shelf and leave the input alone.
+/// `check`, `ground` and `bench` change nothing on the shelf; `solve` changes the name of its certificate
+/// alone. The input is left alone.
 pub fn run<R: Threads + Sync, S: Shelf, I: Source + Send, O: Sink + Send, G: Gate>(
     rt: &R,
     alloc: Global,
@@ -42,21 +46,23 @@ pub fn run<R: Threads + Sync, S: Shelf, I: Source + Send, O: Sink + Send, G: Gat
     out: &mut O,
     gate: &G,
 ) -> u8
-    // How a run ends: the whole text of its ending is put, or after 4 a first part of it.
+    // How a run ends: the whole text of its ending is put, or after 4 at most a first part of it.
     ensures ends { result ≢ WRITE_FAILED → (text : List ℕ)
-        × MayEndAs S.held S.read_faults words.now shelf.old shelf.new result text
+        × MayEndAs S.held S.read_faults S.write_faults words.now shelf.old shelf.new result text
         × Appends (O.taken out.old) (O.taken out.new) text }
     ensures cut_short { result ≡ WRITE_FAILED → (status : ℕ) × (text : List ℕ)
-        × MayEndAs S.held S.read_faults words.now shelf.old shelf.new status text
-        × PutsPrefix (O.taken out.old) (O.taken out.new) text }
+        × MayEndAs S.held S.read_faults S.write_faults words.now shelf.old shelf.new status text
+        × PutsPart (O.taken out.old) (O.taken out.new) status text }
 
-    // Where the status is none of 3, 4 and 5, it is exactly what the words and the bytes say.
+    // Where the status is none of 3, 4 and 5, it is what the words and the bytes say.
     ensures bad_words { result ≢ WRITE_FAILED → result ≢ NO_MEMORY
         → (result ≡ BAD_WORDS) ↔ AsksNothing words.now }
     ensures refused { (s : Sources) (t : Texts) → TellsTexts words.now (S.held shelf.old) s t
         → HasVerdict result → (result ≡ REFUSED) ↔ IsRefused s t }
     ensures limited { (s : Sources) (t : Texts) → TellsTexts words.now (S.held shelf.old) s t
-        → HasVerdict result → (result ≡ LIMIT) ↔ IsLimited s t }
+        → HasVerdict result → IsLimited s t → result ≡ LIMIT }
+    ensures limited_only { (s : Sources) (t : Texts) → TellsTexts words.now (S.held shelf.old) s t
+        → result ≡ LIMIT → IsLimited s t ⊎ MayBeTooLong words.now t }
     ensures grounded { (s : Sources) (t : Texts) → TellsGround words.now (S.held shelf.old) s t
         → HasVerdict result → (result ≡ DONE) ↔ IsGrounded s t }
     ensures accepted { (s : Sources) (t : Texts) (f : List ℕ)
@@ -75,22 +81,33 @@ pub fn run<R: Threads + Sync, S: Shelf, I: Source + Send, O: Sink + Send, G: Gat
         → TellsCheck words.now (S.held shelf.old) s t f
         → result ≡ DONE → PutsReport s t f (O.taken out.old) (O.taken out.new) }
 
+    // The certificate that was written is one that `check` accepts. It is as narrow as plain rounded iteration
+    // makes the interval in so many rounds, and wider than was asked for only where that is too.
+    ensures solves { (s : Solving) (t : Texts) → TellsSolve words.now (S.held shelf.old) s t
+        → HasReport result → PutsSolution s t result (S.held shelf.new s.certificate)
+        (O.taken out.old) (O.taken out.new) }
+    ensures measures { (places seed : ℕ) → Asks words.now (to_bench places seed)
+        → HasReport result → PutsMeasure places seed result (O.taken out.old) (O.taken out.new) }
+
     // When 3 and 4 come. Want of memory, 5, is free, and puts nothing.
     ensures read_failed { result ≡ READ_FAILED
         → ((q : Asked) × Asks words.now q × Lacks (S.held shelf.old) q)
         ⊎ Rose (S.read_faults shelf.old) (S.read_faults shelf.new) }
-    ensures write_failed { result ≡ WRITE_FAILED → Rose (O.faults out.old) (O.faults out.new) }
+    ensures write_failed { result ≡ WRITE_FAILED → Rose (O.faults out.old) (O.faults out.new)
+        ⊎ ((s : Solving) × Asks words.now (to_solve s)
+        × Rose (S.write_faults shelf.old) (S.write_faults shelf.new)) }
     ensures memory { result ≡ NO_MEMORY → O.taken out.new ≡ O.taken out.old }
 
     // A request has an answer where no fault came and no name is missing.
     ensures answered { (q : Asked) → Asks words.now q
         → ¬ Lacks (S.held shelf.old) q
-        → ¬ Rose (S.read_faults shelf.old) (S.read_faults shelf.new)
-        → ¬ Rose (O.faults out.old) (O.faults out.new) → IsAnswer result }
+        → ¬ Faults S.held S.read_faults S.write_faults shelf.old shelf.new q
+        → ¬ Rose (O.faults out.old) (O.faults out.new) → IsAnswerTo q result }
 
     // How often the shelf is asked, and what stays.
     ensures calls { CallsForWords S.held S.calls shelf.old shelf.new (asked_by words.now) }
-    ensures shelf { OnlyRead S.held S.read_faults S.write_faults shelf.old shelf.new }
+    ensures shelf { LeavesForWords S.held S.read_faults S.write_faults shelf.old shelf.new
+        (asked_by words.now) }
     ensures source { input.new ≡ input.old }
 {
     // The laws on which the clauses rest.
@@ -99,22 +116,27 @@ pub fn run<R: Threads + Sync, S: Shelf, I: Source + Send, O: Sink + Send, G: Gat
     text_laws();
     check_laws();
     task_laws();
+    same_value_laws();
+    same_level_laws();
     task_certificate_laws();
-    let ending = report_of(alloc, words, shelf);
+    task_progress_laws();
+    let ending = report_of(rt, alloc, words, shelf, gate);
     put_ending(alloc, out, ending)
 }
 
 /// Puts the report or the line of the stop, and answers the status; 4 where it was not put whole.
-fn put_ending<O: Sink>(alloc: Global, out: &mut O, ending: Result<Bytes, Stop>) -> u8
+fn put_ending<O: Sink>(alloc: Global, out: &mut O, ending: Result<Report, Stop>) -> u8
     ensures put { result ≢ WRITE_FAILED
         → SaysPut ending result (O.taken out.old) (O.taken out.new) }
     ensures cut_short { result ≡ WRITE_FAILED
         → SaysCutShort ending (O.taken out.old) (O.taken out.new) }
     ensures memory { result ≡ NO_MEMORY → O.taken out.new ≡ O.taken out.old }
-    ensures write_failed { result ≡ WRITE_FAILED → Rose (O.faults out.old) (O.faults out.new) }
+    ensures write_failed { result ≡ WRITE_FAILED
+        → Rose (O.faults out.old) (O.faults out.new) ⊎ (ending ≡ Err WriteFailed) }
 {
     match ending {
-        Ok(report) => put(out, report.as_slice(), DONE),
+        Ok(report) => put(out, report.text(), report.status()),
+        Err(Stop::WriteFailed) => WRITE_FAILED,
         Err(stop) => match stop.line(alloc) {
             Ok(line) => put(out, line.as_str().as_bytes(), stop.status()),
             Err(_) => NO_MEMORY,

@@ -4,6 +4,7 @@ mod calls;
 mod certificates;
 mod limits;
 mod runs;
+mod searches;
 mod texts;
 
 use crate::run;

@@ -1,16 +1,18 @@
--- A ground problem of texts stands for their task.
-use Rattle.std.proofs.Common.{◌≡◌, ℕ, ◌≤◌, refl, sym, ap, ◌∙◌, arith, Option, Some, None, Result, Ok, Err}
+-- A ground problem of texts stands for their task, and is spelled in lower case.
+use Rattle.std.proofs.Common.{◌≡◌, ℕ, ◌≤◌, refl, sym, ap, subst, ◌∙◌, arith, Option, Some, None, Result, Ok, Err}
 use Rattle.std.specs.Prelude.{IfSome}
 use Rattle.plain_list.specs.Results.{◌>>=◌}
+use Rattle.certificate.specs.Names.{is_lower_name}
 use Rattle.ppddl_model.specs.declared.tree.Task.{Task}
 use Rattle.ppddl_model.specs.WellFormed.{IsWellFormed}
 use Rattle.ground_model.specs.Ground.{Ground}
 use Rattle.grounding.specs.declared.refusal.GroundRefusal.{GroundRefusal}
-use Rattle.grounding.specs.Laws.{AreInRange, GroundedStands}
+use Rattle.grounding.specs.Laws.{AreInRange, GroundedStands, AreListsOf, HaveForm, NamesKeepTheirForm}
 use Rattle.grounding.specs.Limits.{grounded}
 use Rattle.token_cursor.specs.Reading.{Fault}
 use Rattle.ppddl_tasks.specs.Texts.{task_of}
-use Rattle.ppddl_well_formed.specs.Laws.{TasksAreWellFormed}
+use Rattle.ppddl_well_formed.specs.Laws.{TasksAreWellFormed, TasksHaveLowerNames}
+use Rattle.ppddl_well_formed.specs.Names.{HasLowerNames}
 use Rattle.plan_request.specs.Asked.{Sources}
 use Rattle.plan_request.specs.Laws.{AreTerms, IsBetween}
 use Rattle.plan_stop.specs.declared.stop.Stop.{Stop}
@@ -40,8 +42,11 @@ texts_read s t g is =
     let read : (u : Texts) × (texts_within t ≡ Ok u) × (problem_in s u ≡ Ok g) = bound_ok (texts_within t) (problem_in s) g is in
     ap (problem_in s) (sym (given_texts t read.0 read.1)) ∙ read.2
 
-pub problem_stands : TasksAreWellFormed → GroundedStands → ProblemStands
-problem_stands well_formed law s t g are is =
+have_form : (task : Task) → HasLowerNames task → HaveForm is_lower_name task
+have_form task lower = record { objects = lower.declared.objects; predicates = lower.declared.predicates; actions = lower.actions }
+
+pub problem_stands : TasksAreWellFormed → TasksHaveLowerNames → GroundedStands → NamesKeepTheirForm → ProblemStands
+problem_stands well_formed lower law spelled s t g are is =
     let read = problem_read s t g (texts_read s t g is) in
     let task_is = task_read t read.0 read.1 in
     let fits = well_formed t.first t.second read.0 task_is in
@@ -54,4 +59,6 @@ problem_stands well_formed law s t g are is =
       charged = made.1;
       problem = made.2;
       stands = made.3;
+      names = subst (AreListsOf is_lower_name) (sym made.2)
+          (spelled is_lower_name read.0 made.0 fits (have_form read.0 (lower t.first t.second read.0 task_is)));
     }

@@ -13,10 +13,10 @@ use Rattle.ppddl_lex.specs.declared.lexer.TheConstants.{MOST_TEXT}
 use Rattle.ground_model.specs.Ground.{Ground}
 use Rattle.plan_request.specs.Asked.{Sources}
 use Rattle.plan_stop.specs.declared.stop.Stop.{Stop}
-use Rattle.plan_stop.specs.declared.stop.Stop.TheVariants.{BadWords, ReadFailed, NoMemory, Refused, NotAccepted, Limit}
+use Rattle.plan_stop.specs.declared.stop.Stop.TheVariants.{BadWords, ReadFailed, WriteFailed, NoMemory, Refused, NotAccepted, Limit}
 use Rattle.plan_sources.specs.declared.texts.Texts.{Texts}
 use Rattle.plan_sources.specs.Endings.{MayEnd, MayGive, IsFault, OnlyRead}
-use Rattle.plan_sources.specs.Problems.{AreShort, text_within, second_within, texts_within, problem_in, problem_of}
+use Rattle.plan_sources.specs.Problems.{AreShort, text_within, second_within, texts_within, one_text, problem_in, problem_of}
 use Rattle.plan_sources.specs.Sources.{MayBeSecond, LacksSecond, MayGiveSecond, MayBeTexts, LacksText, MayGiveTexts, MayGiveProblem}
 
 -- ---- endings
@@ -27,6 +27,7 @@ pub stops_whole : {A B : Type 0} (lacks lacks' : Type 0) (part : Result A Stop �
 stops_whole lacks lacks' part whole f h NoMemory ends = tt
 stops_whole lacks lacks' part whole f h ReadFailed ends = f ends
 stops_whole lacks lacks' part whole f h BadWords ends = h BadWords ends
+stops_whole lacks lacks' part whole f h WriteFailed ends = h WriteFailed ends
 stops_whole lacks lacks' part whole f h (Refused code file line) ends = h (Refused code file line) ends
 stops_whole lacks lacks' part whole f h (NotAccepted code row) ends = h (NotAccepted code row) ends
 stops_whole lacks lacks' part whole f h (Limit code most) ends = h (Limit code most) ends
@@ -196,3 +197,17 @@ module _ (held : List ℕ → Told) (s : Sources) where
   pub problem_given : (t : Texts) → MayGiveTexts held s (Ok t) → (r : Result Ground Stop) → problem_in s t ≡ r → MayGiveProblem held s r
   unfolding problem_of
   problem_given t (u, are, is) r gives = (u, are, ap (λ x. x >>= problem_in s) is ∙ gives)
+
+-- ---- one text that is at hand
+
+pub long_alone : (s : Sources) (text : List ℕ) → MOST_TEXT < length text → problem_of s (one_text text) ≡ Err (Limit 28 MOST_TEXT)
+long_alone s text long = long_problem (one_text text) s (Limit 28 MOST_TEXT) (first_too_long (one_text text) (Limit 28 MOST_TEXT) (long_text text long))
+
+pub short_alone : (text : List ℕ) → length text ≤ MOST_TEXT → AreShort (one_text text)
+short_alone text short = record { first = short; second = tt }
+
+pub problem_alone : (s : Sources) (text : List ℕ) → length text ≤ MOST_TEXT → (r : Result Ground Stop)
+    → MayEnd ⊥ (λ r. problem_in s (one_text text) ≡ r) r → MayEnd ⊥ (λ r. problem_of s (one_text text) ≡ r) r
+problem_alone s text short r ends =
+    ends_whole ⊥ ⊥ (λ r. problem_in s (one_text text) ≡ r) (λ r. problem_of s (one_text text) ≡ r) (λ never. never)
+    (λ r is. short_problem (one_text text) s (short_alone text short) ∙ is) r ends

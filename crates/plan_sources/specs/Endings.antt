@@ -9,13 +9,14 @@ use Rattle.std.specs.Prelude.{◌≡◌, ◌≤◌, ◌⊎◌, ℕ, List, Result
 use Rattle.shelf_io.specs.Causes.{Rose}
 use Rattle.shelf_io.specs.Shelf.{Told, MayHold}
 use Rattle.plan_stop.specs.declared.stop.Stop.{Stop}
-use Rattle.plan_stop.specs.declared.stop.Stop.TheVariants.{BadWords, ReadFailed, NoMemory, Refused, NotAccepted, Limit}
+use Rattle.plan_stop.specs.declared.stop.Stop.TheVariants.{BadWords, ReadFailed, WriteFailed, NoMemory, Refused, NotAccepted, Limit}
 
 abbrev pub MayEnd : {A : Type 0} → Type 0 → (Result A Stop → Type 0) → Result A Stop → Type 0
 MayEnd fault gives (Ok x) = gives (Ok x)
 MayEnd fault gives (Err NoMemory) = Unit {0}
 MayEnd fault gives (Err ReadFailed) = fault
 MayEnd fault gives (Err BadWords) = gives (Err BadWords)
+MayEnd fault gives (Err WriteFailed) = gives (Err WriteFailed)
 MayEnd fault gives (Err (Refused code file line)) = gives (Err (Refused code file line))
 MayEnd fault gives (Err (NotAccepted code row)) = gives (Err (NotAccepted code row))
 MayEnd fault gives (Err (Limit code most)) = gives (Err (Limit code most))

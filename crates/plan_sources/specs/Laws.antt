@@ -5,8 +5,10 @@
 --     IsOfTexts stop       a refusal of texts, or a limit
 --     TextsStopSo          texts stop a run so, and not otherwise
 --     StandsForTexts s t g, ProblemStands
---                          a problem that texts give is the ground problem of their task, which is well-formed, and stands for it
+--                          a problem that texts give is the ground problem of their task, which is well-formed, and stands for it; its
+--                          atoms and its actions are spelled as certificates spell them
 use Rattle.std.specs.Prelude.{◌≡◌, ℕ, List, Option, Some, None, Result, Ok, Err}
+use Rattle.certificate.specs.Names.{is_lower_name}
 use Rattle.shelf_io.specs.Shelf.{Told, Holds}
 use Rattle.ppddl_model.specs.declared.tree.Task.{Task}
 use Rattle.ppddl_model.specs.Steps.{Charges, charges_of}
@@ -14,11 +16,12 @@ use Rattle.ppddl_model.specs.WellFormed.{IsWellFormed}
 use Rattle.ground_model.specs.Ground.{Ground}
 use Rattle.ground_stands.specs.Stands.{IsGroundOf}
 use Rattle.grounding.specs.Problem.{ground_problem}
+use Rattle.grounding.specs.Laws.{AreListsOf}
 use Rattle.ppddl_tasks.specs.Texts.{task_of}
 use Rattle.plan_request.specs.Asked.{Sources}
 use Rattle.plan_request.specs.Laws.{AreTerms}
 use Rattle.plan_stop.specs.declared.stop.Stop.{Stop}
-use Rattle.plan_stop.specs.declared.stop.Stop.TheVariants.{BadWords, ReadFailed, NoMemory, Refused, NotAccepted, Limit}
+use Rattle.plan_stop.specs.declared.stop.Stop.TheVariants.{BadWords, ReadFailed, WriteFailed, NoMemory, Refused, NotAccepted, Limit}
 use Rattle.plan_sources.specs.declared.texts.Texts.{Texts}
 use Rattle.plan_sources.specs.Problems.{terms_of, problem_of}
 use Rattle.plan_sources.specs.Sources.{MayGiveProblem}
@@ -44,6 +47,7 @@ IsOfTexts (Refused code file line) = Unit {0}
 IsOfTexts (Limit code most) = Unit {0}
 IsOfTexts BadWords = ⊥
 IsOfTexts ReadFailed = ⊥
+IsOfTexts WriteFailed = ⊥
 IsOfTexts NoMemory = ⊥
 IsOfTexts (NotAccepted code row) = ⊥
 
@@ -60,6 +64,7 @@ pub record StandsForTexts (s : Sources) (t : Texts) (g : Ground) : Type 0 where
   pub charged : charges_of (terms_of s) task ≡ Some charges
   pub problem : g ≡ ground_problem task charges
   pub stands : IsGroundOf g task charges
+  pub names : AreListsOf is_lower_name g
 
 abbrev pub ProblemStands : Type 0
 ProblemStands = (s : Sources) (t : Texts) (g : Ground) → AreTerms s → problem_of s t ≡ Ok g → StandsForTexts s t g

@@ -12,6 +12,7 @@
 --     ground_task s task     the ground problem of a task, on the terms of a request
 --     problem_in s t         that of the task of short texts
 --     problem_of s t         the same of any texts
+--     one_text first         a text without a second one
 --     text_count s           how many texts a request names
 use Rattle.std.specs.Prelude.{ℕ, ◌+◌, ◌≤◌, nat_le, if◌then◌else◌, List, length, Option, Some, None, IfSome, Result, Ok, Err}
 use Rattle.plain_list.specs.Results.{◌>>=◌}
@@ -78,6 +79,9 @@ problem_in s t = task_in t >>= ground_task s
 
 unfoldable pub problem_of : Sources → Texts → Result Ground Stop
 problem_of s t = texts_within t >>= problem_in s
+
+abbrev pub one_text : List ℕ → Texts
+one_text first = record { first = first; second = None }
 
 abbrev pub second_count : Option (List ℕ) → ℕ
 second_count None = 0

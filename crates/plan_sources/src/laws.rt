@@ -6,7 +6,7 @@ use grounding::grounding_laws;
 use ppddl_well_formed::task_laws;
 
 /// Texts that are told give one answer; what stops a run there is a refusal or a limit; and a ground
-/// problem stands for the task of its texts.
+/// problem stands for the task of its texts, and is spelled as certificates are.
 pub fn source_laws()
     ensures told { OneProblemIsTold }
     ensures stops { TextsStopSo }

@@ -9,5 +9,5 @@ mod texts;
 
 pub use certificates::certificate_of;
 pub use laws::source_laws;
-pub use problems::problem_of;
+pub use problems::{problem_of, problem_of_text};
 pub use texts::Texts;

@@ -18,7 +18,7 @@ use shelf_io::{Shelf, ShelfFault};
 use std::alloc::Global;
 
 /// The number of the limit on the bytes of a text.
-const TEXT_LENGTH: u8 = 28;
+pub(crate) const TEXT_LENGTH: u8 = 28;
 
 /// The texts of a task: the domain and the problem, in one text or in two.
 #[derive(Debug, Drop)]

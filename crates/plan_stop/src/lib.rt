@@ -1,11 +1,13 @@
-//! What stops a run of the program, with its status and the line that is printed then.
+//! How a run of the program ends: with a report, or by what stops it, each with its status and what is printed.
 #![tactic(auto)]
 
+mod report;
 mod status;
 mod stop;
 
+pub use report::Report;
 pub use status::{
-    BAD_WORDS, DONE, LIMIT, NO_MEMORY, NOT_ACCEPTED, READ_FAILED, REFUSED, WRITE_FAILED,
+    BAD_WORDS, DONE, GAP_LEFT, LIMIT, NO_MEMORY, NOT_ACCEPTED, READ_FAILED, REFUSED, WRITE_FAILED,
 };
 pub use stop::Stop;
 

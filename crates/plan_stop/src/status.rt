@@ -5,6 +5,11 @@ pub const DONE: u8 = 0;
 
 const _: () = prove!(DONE == 0);
 
+/// A search ended, and its report was put, with a wider interval than was asked for.
+pub const GAP_LEFT: u8 = 1;
+
+const _: () = prove!(GAP_LEFT == 1);
+
 /// The words ask for nothing.
 pub const BAD_WORDS: u8 = 2;
 
@@ -15,7 +20,7 @@ pub const READ_FAILED: u8 = 3;
 
 const _: () = prove!(READ_FAILED == 3);
 
-/// The output was not written.
+/// The output, or a certificate, was not written.
 pub const WRITE_FAILED: u8 = 4;
 
 const _: () = prove!(WRITE_FAILED == 4);

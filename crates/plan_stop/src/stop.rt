@@ -5,7 +5,9 @@ ghost use Rattle.std.specs.Cow.{cow_str_bytes};
 ghost use Rattle.plan_stop.specs.Stop.{status_of, line_of, stop_of_text, stop_of_certificate};
 ghost use Rattle.plan_stop.specs.declared.stop.Stop.TheVariants.{NoMemory};
 
-use crate::status::{BAD_WORDS, LIMIT, NO_MEMORY, NOT_ACCEPTED, READ_FAILED, REFUSED};
+use crate::status::{
+    BAD_WORDS, LIMIT, NO_MEMORY, NOT_ACCEPTED, READ_FAILED, REFUSED, WRITE_FAILED,
+};
 use certificate::CertRefusal;
 use ppddl_model::{TextCode, TextRefusal};
 use std::alloc::{AllocError, Global};
@@ -21,6 +23,9 @@ pub enum Stop {
     /// A file was not read.
     #[error("ReadFailed")]
     ReadFailed,
+    /// A certificate was not written.
+    #[error("WriteFailed")]
+    WriteFailed,
     /// Want of memory.
     #[error("NoMemory")]
     NoMemory,
@@ -42,10 +47,10 @@ pub enum Stop {
         /// The line of the text, or the row of the certificate, at which it is; 0 where it is at none.
         row: u32,
     },
-    /// A quantity of the texts is above its limit.
+    /// A quantity of the texts is above its limit, or the length of a certificate that was found.
     #[error("Limit")]
     Limit {
-        /// The number of the limit: 20 to 29.
+        /// The number of the limit: 20 to 29 of texts, 33 of a certificate that was found.
         code: u8,
         /// The greatest that is within it.
         most: u64,
@@ -60,6 +65,7 @@ impl Stop {
         match self {
             Stop::BadWords => BAD_WORDS,
             Stop::ReadFailed => READ_FAILED,
+            Stop::WriteFailed => WRITE_FAILED,
             Stop::NoMemory => NO_MEMORY,
             Stop::Refused { .. } => REFUSED,
             Stop::NotAccepted { .. } => NOT_ACCEPTED,
@@ -67,8 +73,8 @@ impl Stop {
         }
     }
 
-    /// The line that is put, with its line feed. Want of memory has none, and a line without numbers
-    /// takes no memory.
+    /// The line that is put, with its line feed. Nothing is put where a certificate was not written, and
+    /// nothing for want of memory. A line without numbers takes no memory.
     pub fn line(self, alloc: Global) -> Result<CowStr<'static>, AllocError>
         ensures text { IfOk result (λ line. cow_str_bytes line ≡ line_of self) }
         ensures no_memory { self ≡ NoMemory → IsErr result }
@@ -76,6 +82,7 @@ impl Stop {
         let line = match self {
             Stop::BadWords => return Ok(CowStr::Borrowed("bad words\n")),
             Stop::ReadFailed => return Ok(CowStr::Borrowed("read failed\n")),
+            Stop::WriteFailed => return Ok(CowStr::Borrowed("")),
             Stop::NoMemory => return Err(AllocError),
             Stop::Refused { code, file, line } => {
                 let code = code.number();

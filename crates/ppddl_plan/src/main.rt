@@ -2,12 +2,13 @@
 //! answer.
 #![tactic(auto)]
 
-ghost use Rattle.std.specs.Prelude.{◌≡◌, ◌≢◌, ◌↔◌, map, None, IfOk, string_bytes};
+ghost use Rattle.std.specs.Prelude.{◌≡◌, ◌≢◌, ◌⊎◌, ◌↔◌, map, Some, None, IfOk, string_bytes};
 ghost use Rattle.shelf_io.specs.Causes.{Rose};
 ghost use Rattle.plan_stop.specs.declared.status.TheConstants.{BAD_WORDS, WRITE_FAILED};
 ghost use Rattle.plan_stop.specs.declared.status.TheConstants.{NO_MEMORY};
-ghost use Rattle.plan_sources.specs.Endings.{OnlyRead};
+ghost use Rattle.plan_request.specs.Asked.{Solving, to_solve};
 ghost use Rattle.plan_app.specs.Asking.{asked_of};
+ghost use Rattle.plan_app.specs.Endings.{LeavesForWords};
 
 use plan_app::run;
 use plan_stop::NO_MEMORY;
@@ -57,9 +58,12 @@ fn run_with<R: Threads + Sync, S: Shelf, I: Source + Send, O: Sink + Send>(
 ) -> u8
     ensures bad_words { result ≢ WRITE_FAILED → result ≢ NO_MEMORY
         → (result ≡ BAD_WORDS) ↔ (asked_of (map string_bytes words.now) ≡ None) }
-    ensures write_failed { result ≡ WRITE_FAILED → Rose (O.faults out.old) (O.faults out.new) }
+    ensures write_failed { result ≡ WRITE_FAILED → Rose (O.faults out.old) (O.faults out.new)
+        ⊎ ((s : Solving) × (asked_of (map string_bytes words.now) ≡ Some (to_solve s))
+        × Rose (S.write_faults shelf.old) (S.write_faults shelf.new)) }
     ensures memory { result ≡ NO_MEMORY → O.taken out.new ≡ O.taken out.old }
-    ensures shelf { OnlyRead S.held S.read_faults S.write_faults shelf.old shelf.new }
+    ensures shelf { LeavesForWords S.held S.read_faults S.write_faults shelf.old shelf.new
+        (asked_of (map string_bytes words.now)) }
     ensures source { input.new ≡ input.old }
 {
     match lent(alloc, words) {

@@ -217,3 +217,29 @@ fn spoiled_certificates(rt: HostRuntime) -> Result<(), Fail> {
     }
     Ok(())
 }
+
+/// A certificate of each version, cut behind each of its bytes but the last: the line of the cut lacks its end.
+#[test]
+fn cut_certificates(rt: HostRuntime) -> Result<(), Fail> {
+    for text in [NAMED, NUMBERED] {
+        let bytes = text.as_bytes();
+        let mut line = 1u32;
+        for (cut, byte) in bytes.iter().enumerate() {
+            let Some(front) = bytes.get(..cut) else {
+                assert!(rt; false);
+                return Ok(());
+            };
+            let wanted = format!(in rt.alloc(); "not accepted 30 {line}\n")?;
+            let setting = Setting {
+                words: &["check", "coin", "--cert", "c"],
+                files: &[("coin", COIN.as_bytes()), ("c", front)],
+                failing: (0, 0),
+            };
+            check_run(&rt, rt.alloc(), &setting, (7, wanted.as_str()))?;
+            if *byte == b'\n' {
+                line = line.saturating_add(1);
+            }
+        }
+    }
+    Ok(())
+}

@@ -81,10 +81,29 @@ const OBJECTS: Repeated<'static> = Repeated {
     after: ") (:goal (x0)) (:goal-reward 10))",
 };
 
+/// Objects of two types, and an action of one of each.
+const PAIRS: Repeated<'static> = Repeated {
+    before: "(define (domain d) (:types a b) (:predicates (p)) (:action act :parameters (?x - a ?y - b) :effect (p))) (define (problem p) (:domain d) (:objects",
+    piece: (" x", ""),
+    between: " - a",
+    again: (" y", ""),
+    after: " - b) (:goal (p)) (:goal-reward 10))",
+};
+
+/// Objects, an action whose precondition grows with their square, and a goal of so many parts. A comment takes up
+/// the numbers of the parts.
+const SIZES: Repeated<'static> = Repeated {
+    before: "(define (domain d) (:predicates (p) (q)) (:action act :parameters (?x) :precondition (forall (?y ?z) (q)) :effect (p))) (define (problem p) (:domain d) (:objects",
+    piece: (" o", ""),
+    between: ") (:goal (and",
+    again: ("();", "\n"),
+    after: ")) (:goal-reward 10))",
+};
+
 #[test]
 fn limits(rt: HostRuntime) -> Result<(), Fail> {
     let alloc = rt.alloc();
-    let rows: [(&Repeated<'static>, u32, u32, u8, &str); 11] = [
+    let rows: [(&Repeated<'static>, u32, u32, u8, &str); 15] = [
         (
             &PARTS,
             8,
@@ -113,6 +132,18 @@ fn limits(rt: HostRuntime) -> Result<(), Fail> {
         (&INSTANCES, 101, 0, 8, "limit 22 1000000\n"),
         (&OBJECTS, 8, 1_000, 0, "penalty 10.000000\natoms 8\n"),
         (&OBJECTS, 9, 1_000, 8, "limit 20 256\n"),
+        // 217 by 302 and 255 by 257 ground actions.
+        (
+            &PAIRS,
+            217,
+            302,
+            0,
+            "penalty 10.000000\natoms 1\n(p)\nstarts 1\nstart 1/1 :\nactions 65534\n",
+        ),
+        (&PAIRS, 255, 257, 8, "limit 23 65534\n"),
+        // 271 instances of size 73,442, and the goal.
+        (&SIZES, 271, 97_217, 0, "penalty 10.000000\n"),
+        (&SIZES, 271, 97_218, 8, "limit 29 20000000\n"),
         // The first limit in their order.
         (&OBJECTS, 9, 1_001, 8, "limit 26 1000\n"),
     ];
@@ -154,6 +185,36 @@ fn limits_of_effects(rt: HostRuntime) -> Result<(), Fail> {
     for (effect, status, text) in rows {
         let task = format!(in alloc;
             "(define (domain d) (:predicates (a) (b) (c)) (:action act :effect (and {effect}))) (define (problem p) (:domain d) (:goal (a)) (:goal-reward 10))"
+        )?;
+        let setting = Setting {
+            words: &["ground", "task"],
+            files: &[("task", task.as_str().as_bytes())],
+            failing: (0, 0),
+        };
+        check_front(&rt, alloc, &setting, (status, text))?;
+    }
+    Ok(())
+}
+
+/// Denominators of `:init`.
+#[test]
+fn limits_of_starts(rt: HostRuntime) -> Result<(), Fail> {
+    let alloc = rt.alloc();
+    let rows: [(&str, u8, &str); 2] = [
+        (
+            "(probabilistic 0.000000001 (a)) (probabilistic 0.000000001 (b))",
+            0,
+            "penalty 10.000000\natoms 2\n",
+        ),
+        (
+            "(probabilistic 0.000000001 (a)) (probabilistic 0.000000001 (b)) (probabilistic 0.5 (c))",
+            8,
+            "limit 21 1000000000000000000\n",
+        ),
+    ];
+    for (init, status, text) in rows {
+        let task = format!(in alloc;
+            "(define (domain d) (:predicates (a) (b) (c)) (:action act :effect (a))) (define (problem p) (:domain d) (:init {init}) (:goal (a)) (:goal-reward 10))"
         )?;
         let setting = Setting {
             words: &["ground", "task"],

@@ -6,7 +6,7 @@ use Rattle.plan_app.proofs.commands.check.Goals as goal
 
 pub returns-in_err-problem-clause-ends : goal.returns-in_err-problem-clause-ends
 returns-in_err-problem-clause-ends g c =
-    let stop = texts_stop g.S.Shelf.held g.S.Shelf.read_faults c.args.shelf.now (shown_sources c.args.sources.now) c.args.name.now
+    let stop = texts_stop g.S.Shelf.held g.S.Shelf.read_faults g.S.Shelf.write_faults c.args.shelf.now (shown_sources c.args.sources.now) c.args.name.now
     c.problem_of.new.shelf c.in_err-problem.field-0.0 c.in_err-problem.ensures.ends in
     search (rules, stop)
 
@@ -16,7 +16,7 @@ returns-in_err-problem-clause-calls g c =
 
 pub returns-in_err-certificate-clause-ends : goal.returns-in_err-certificate-clause-ends
 returns-in_err-certificate-clause-ends g c =
-    let stop = certificate_stops g.S.Shelf.held g.S.Shelf.read_faults c.args.shelf.now (shown_sources c.args.sources.now) c.args.name.now
+    let stop = certificate_stops g.S.Shelf.held g.S.Shelf.read_faults g.S.Shelf.write_faults c.args.shelf.now (shown_sources c.args.sources.now) c.args.name.now
     c.in_ok-problem.problem c.in_ok-problem.ensures.ends c.problem_of.new.shelf c.problem_of.ensures.shelf.held_same
     c.certificate_of.new.shelf c.problem_of.ensures.shelf.later c.in_err-certificate.field-0.0 c.in_err-certificate.ensures.ends in
     search (rules, stop)
@@ -28,7 +28,7 @@ returns-in_err-certificate-clause-calls g c =
 
 pub returns-clause-ends : goal.returns-clause-ends
 returns-clause-ends g c =
-    judged g.S.Shelf.held g.S.Shelf.read_faults c.args.shelf.now (shown_sources c.args.sources.now) c.args.name.now
+    judged g.S.Shelf.held g.S.Shelf.read_faults g.S.Shelf.write_faults c.args.shelf.now (shown_sources c.args.sources.now) c.args.name.now
     c.in_ok-problem.problem c.in_ok-problem.ensures.ends c.problem_of.new.shelf c.problem_of.ensures.shelf.held_same
     c.in_ok-certificate.certificate c.in_ok-certificate.ensures.ends c.certificate_of.new.shelf c.judge.result c.judge.ensures
 

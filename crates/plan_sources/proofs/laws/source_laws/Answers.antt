@@ -10,4 +10,4 @@ pub returns-clause-stops : goal.returns-clause-stops
 returns-clause-stops c = texts_stop_so
 
 pub returns-clause-stands : goal.returns-clause-stands
-returns-clause-stands c = problem_stands c.task_laws.ensures.well_formed c.grounding_laws.ensures.stands
+returns-clause-stands c = problem_stands c.task_laws.ensures.well_formed c.task_laws.ensures.names c.grounding_laws.ensures.stands c.grounding_laws.ensures.names

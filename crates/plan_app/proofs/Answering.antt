@@ -1,0 +1,149 @@
+-- The statuses of requests that meet no fault.
+use Rattle.std.proofs.Common.{◌≡◌, ℕ, ◌⊎◌, inl, inr, Bool, List, refl, sym, ap, subst, arith, Result, Ok, Err}
+use Rattle.std.specs.Prelude.{Contains}
+use Rattle.shelf_io.specs.Causes.{Rose}
+use Rattle.shelf_io.specs.Shelf.{Told}
+use Rattle.certificate.specs.Content.{Content}
+use Rattle.certificate_check.specs.Codes.{number_of, row_of}
+use Rattle.ground_model.specs.Ground.{Ground}
+use Rattle.plan_request.specs.declared.effort.Effort.{Effort}
+use Rattle.plan_request.specs.declared.sizes.Sizes.{Sizes}
+use Rattle.plan_request.specs.Asked.{Sources, Solving, Asked, to_solve, to_check, to_serve, to_ground, to_bench}
+use Rattle.plan_report.specs.Line.{line_text}
+use Rattle.plan_stop.specs.declared.stop.Stop.{Stop}
+use Rattle.plan_stop.specs.declared.stop.Stop.TheVariants.{BadWords, ReadFailed, WriteFailed, NoMemory, Refused, NotAccepted, Limit}
+use Rattle.plan_stop.specs.Stop.{Ending, report_status, ending_status, status_of}
+use Rattle.plan_sources.specs.Problems.{one_text, problem_of}
+use Rattle.plan_sources.specs.Sources.{certificate_in}
+use Rattle.plan_sources.specs.Laws.{IsOfTexts, TextsStopSo}
+use Rattle.plan_app.specs.Measuring.{line_sources}
+use Rattle.plan_app.specs.Endings.{said_of, said_by, IsJudged, IsTooLongSo, AnswersLine, AnswersCheck, AnswersSolve, reported, Lacks, Answers, Faults, MayEndRequest}
+use Rattle.plan_app.specs.Verdicts.{answers_to, IsAnswerTo}
+use Rattle.plan_app.proofs.Verdict.{IsOfCertificate, certificate_stops, said_status, said_by_status}
+
+-- among the statuses l
+module _ (l : List ℕ) where
+  abbrev Among : Ending → Type 0
+  Among e = Contains l (ending_status e)
+
+  module _ (five : Contains l 5) (six : Contains l 6) (eight : Contains l 8) where
+    text_stop : (stop : Stop) → IsOfTexts stop → Among (Err stop)
+    text_stop (Refused code file line) so = six
+    text_stop (Limit code most) so = eight
+    text_stop BadWords so = absurd so
+    text_stop ReadFailed so = absurd so
+    text_stop WriteFailed so = absurd so
+    text_stop NoMemory so = absurd so
+    text_stop (NotAccepted code row) so = absurd so
+
+    certificate_stop : Contains l 7 → (stop : Stop) → IsOfCertificate stop → Among (Err stop)
+    certificate_stop seven (NotAccepted code row) so = seven
+    certificate_stop seven NoMemory so = five
+    certificate_stop seven (Refused code file line) so = absurd so
+    certificate_stop seven (Limit code most) so = absurd so
+    certificate_stop seven BadWords so = absurd so
+    certificate_stop seven ReadFailed so = absurd so
+    certificate_stop seven WriteFailed so = absurd so
+
+    searched : Contains l 0 → Contains l 1 → (b : Bool) (text : List ℕ) (e : Ending) → Ok (said_by b text) ≡ e → Among e
+    searched zero one b text e says =
+        subst Among says
+        (elim (said_by_status b text) [
+          | inl is ↦ subst (Contains l) (sym is) zero
+          | inr is ↦ subst (Contains l) (sym is) one
+        ])
+
+    too_long : (g : Ground) (effort : Effort) (sizes : Sizes) (e : Ending) → IsTooLongSo g effort sizes e → Among e
+    too_long g effort sizes e (stop, long, says) = subst Among says (subst (Contains l) (sym (ap status_of long.stop_is)) eight)
+
+    texts_stop : TextsStopSo → (s : Sources) (stop : Stop) (e : Ending) → IsOfTexts stop → Err stop ≡ e → Among e
+    texts_stop stops s stop e so says = subst Among says (text_stop stop so)
+
+    judged : Contains l 0 → Contains l 7 → (g : Ground) (r : Result Content Stop) (bytes : List ℕ) → certificate_in bytes ≡ r → (e : Ending)
+        → IsJudged g r e → Among e
+    judged zero seven g (Ok c) bytes read e (v, so, says) =
+        subst Among says
+        (elim (said_status c (row_of v) (number_of v)) [
+          | inl is ↦ subst (Contains l) (sym is) zero
+          | inr is ↦ subst (Contains l) (sym is) seven
+        ])
+    judged zero seven g (Err stop) bytes read e says =
+        subst Among says (certificate_stop seven stop (certificate_stops bytes stop read))
+
+module _ {S : Type 0} (held : S → List ℕ → Told) (reads writes : S → ℕ) (old new : S) (stops : TextsStopSo) where
+  solve_answers : (s : Solving) (r : Result Ground Stop) (e : Ending) → ((stop : Stop) → r ≡ Err stop → IsOfTexts stop)
+      → (Rose (writes old) (writes new) → ⊥) → AnswersSolve held writes old new s r e → IsAnswerTo (to_solve s) (ending_status e)
+  solve_answers s (Ok g) e so no_rise (inl wrote) =
+      searched (answers_to (to_solve s)) (2, omega arith, refl) (3, omega arith, refl) (4, omega arith, refl)
+      (0, omega arith, refl) (1, omega arith, refl) wrote.answer.converged _ e wrote.says
+  solve_answers s (Ok g) e so no_rise (inr (inl long)) =
+      too_long (answers_to (to_solve s)) (2, omega arith, refl) (3, omega arith, refl) (4, omega arith, refl) g s.effort s.sizes e long
+  solve_answers s (Ok g) e so no_rise (inr (inr (says, rose))) = absurd (no_rise rose)
+  solve_answers s (Err stop) e so no_rise says =
+      texts_stop (answers_to (to_solve s)) (2, omega arith, refl) (3, omega arith, refl) (4, omega arith, refl) stops s.sources stop e
+      (so stop refl) says
+
+  check_answers : (s : Sources) (name : List ℕ) (r : Result Ground Stop) (e : Ending) → ((stop : Stop) → r ≡ Err stop → IsOfTexts stop)
+      → AnswersCheck (held old) name r e → IsAnswerTo (to_check s name) (ending_status e)
+  check_answers s name (Ok g) e so (rc, (bytes, holds, read), is) =
+      judged (answers_to (to_check s name)) (1, omega arith, refl) (2, omega arith, refl) (4, omega arith, refl)
+      (0, omega arith, refl) (3, omega arith, refl) g rc bytes read e is
+  check_answers s name (Err stop) e so says =
+      texts_stop (answers_to (to_check s name)) (1, omega arith, refl) (2, omega arith, refl) (4, omega arith, refl) stops s stop e
+      (so stop refl) says
+
+  ground_answers : (s : Sources) (r : Result Ground Stop) (e : Ending) → ((stop : Stop) → r ≡ Err stop → IsOfTexts stop)
+      → reported (held old) r ≡ e → IsAnswerTo (to_ground s) (ending_status e)
+  ground_answers s (Ok g) e so says = subst (λ e. IsAnswerTo (to_ground s) (ending_status e)) says (0, omega arith, refl)
+  ground_answers s (Err stop) e so says =
+      texts_stop (answers_to (to_ground s)) (1, omega arith, refl) (2, omega arith, refl) (3, omega arith, refl) stops s stop e
+      (so stop refl) says
+
+  line_answers : (places seed : ℕ) (r : Result Ground Stop) (e : Ending) → ((stop : Stop) → r ≡ Err stop → IsOfTexts stop)
+      → AnswersLine places seed r e → IsAnswerTo (to_bench places seed) (ending_status e)
+  line_answers places seed (Ok g) e so measured =
+      searched (answers_to (to_bench places seed)) (2, omega arith, refl) (3, omega arith, refl) (4, omega arith, refl)
+      (0, omega arith, refl) (1, omega arith, refl) measured.measured.converged _ e measured.says
+  line_answers places seed (Err stop) e so says =
+      texts_stop (answers_to (to_bench places seed)) (2, omega arith, refl) (3, omega arith, refl) (4, omega arith, refl) stops
+      line_sources stop e (so stop refl) says
+
+  so_stopped : (s : Sources) (t : _) (r : Result Ground Stop) → problem_of s t ≡ r → (stop : Stop) → r ≡ Err stop → IsOfTexts stop
+  so_stopped s t r is stop says = stops s t stop (subst (λ x. problem_of s t ≡ x) says is)
+
+  answers_among : (q : Asked) (e : Ending) → Answers held writes old new q e → (Faults held reads writes old new q → ⊥)
+      → IsAnswerTo q (ending_status e)
+  answers_among (to_solve s) e (r, (t, are, is), rest) faults =
+      solve_answers s r e (so_stopped s.sources t r is) (λ rose. faults (inr rose)) rest
+  answers_among (to_check s name) e (r, (t, are, is), rest) faults = check_answers s name r e (so_stopped s t r is) rest
+  answers_among (to_serve s) e answers faults = absurd answers
+  answers_among (to_ground s) e (r, (t, are, is), rest) faults = ground_answers s r e (so_stopped s t r is) rest
+  answers_among (to_bench places seed) e (r, is, rest) faults =
+      line_answers places seed r e (so_stopped line_sources (one_text (line_text places seed)) r is) rest
+
+  memory_among : (q : Asked) → IsAnswerTo q 5
+  memory_among (to_solve s) = (2, omega arith, refl)
+  memory_among (to_check s name) = (1, omega arith, refl)
+  memory_among (to_serve s) = (2, omega arith, refl)
+  memory_among (to_ground s) = (1, omega arith, refl)
+  memory_among (to_bench places seed) = (2, omega arith, refl)
+
+  reads_rose : (q : Asked) → Rose (reads old) (reads new) → Faults held reads writes old new q
+  reads_rose (to_solve s) rose = inl rose
+  reads_rose (to_check s name) rose = rose
+  reads_rose (to_serve s) rose = inl rose
+  reads_rose (to_ground s) rose = rose
+  reads_rose (to_bench places seed) rose = rose
+
+  -- a request that met no fault has an answer
+  pub answer_for : (q : Asked) (e : Ending) → MayEndRequest held reads writes old new q e → (Lacks (held old) q → ⊥)
+      → (Faults held reads writes old new q → ⊥) → IsAnswerTo q (ending_status e)
+  answer_for q (Ok report) ends lacks faults = answers_among q (Ok report) ends faults
+  answer_for q (Err BadWords) ends lacks faults = answers_among q (Err BadWords) ends faults
+  answer_for q (Err WriteFailed) ends lacks faults = answers_among q (Err WriteFailed) ends faults
+  answer_for q (Err (Refused code file line)) ends lacks faults = answers_among q (Err (Refused code file line)) ends faults
+  answer_for q (Err (NotAccepted code row)) ends lacks faults = answers_among q (Err (NotAccepted code row)) ends faults
+  answer_for q (Err (Limit code most)) ends lacks faults = answers_among q (Err (Limit code most)) ends faults
+  answer_for q (Err NoMemory) ends lacks faults = memory_among q
+  answer_for q (Err ReadFailed) (inl missing) lacks faults = absurd (lacks missing)
+  answer_for q (Err ReadFailed) (inr rose) lacks faults = absurd (faults (reads_rose q rose))

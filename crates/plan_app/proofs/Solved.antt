@@ -1,0 +1,263 @@
+-- What a search found that was reported, of the ground problem and of the task.
+use Rattle.std.proofs.Common.{◌≡◌, ◌≢◌, ℕ, ◌+◌, ◌*◌, ◌^◌, ◌<◌, ◌≤◌, ◌⊎◌, inl, inr, Bool, true, false, List, ◌++◌, length, refl, sym, ap, ◌∙◌, subst, arith, Option, Some, None, Result, Ok, Err}
+use Rattle.std.specs.Prelude.{◌↔◌, IsTrue}
+use Rattle.std.proofs.Math.Nat.{mul-le-mul_left}
+use Rattle.std.specs.Borrow.{Bor}
+use Rattle.std.specs.Io.KnownBytes.{Appends}
+use Rattle.shelf_io.specs.Shelf.{Told, Untold, Missing, Holds, written}
+use Rattle.sweep_levels.specs.Sweeps.{rounds_at}
+use Rattle.certificate.specs.Content.{Content, text_of, most_bytes}
+use Rattle.certificate_check.specs.Claims.{ground_certificate, IsBalancedFor}
+use Rattle.decision_process.specs.Levels.{IsDepthWithin}
+use Rattle.decision_process.specs.Process.{Process, Start}
+use Rattle.decision_process.specs.Rounded.{plain_low, plain_high}
+use Rattle.ppddl_model.specs.declared.tree.Task.{Task}
+use Rattle.ppddl_model.specs.Laws.{WellFormedSums, ChancesAreProper, StartsAreProper}
+use Rattle.ppddl_model.specs.Steps.{Charges, process, starts, start_den}
+use Rattle.iteration_progress.specs.Width.{IsNarrow}
+use Rattle.iteration_progress.specs.Laws.{TaskIntervalNarrows}
+use Rattle.ground_model.specs.Ground.{Ground}
+use Rattle.ground_model.specs.Steps.{ground_process, ground_starts}
+use Rattle.ground_stands.specs.Laws.{SamePlain, SameDepth}
+use Rattle.task_certificates.specs.Laws.{BalanceIsCarried, TaskIsEnclosed}
+use Rattle.plan_request.specs.declared.effort.Effort.{Effort}
+use Rattle.plan_request.specs.declared.sizes.Sizes.{Sizes}
+use Rattle.plan_request.specs.Asked.{Sources, Solving, to_solve, to_bench}
+use Rattle.plan_request.specs.Laws.{AreTerms}
+use Rattle.plan_report.specs.Line.{line_text}
+use Rattle.plan_report.specs.declared.ending.Ending.TheVariants.{Converged}
+use Rattle.plan_report.specs.Solved.{Solved, solve_text}
+use Rattle.plan_search.specs.Found.{IsFound}
+use Rattle.plan_search.specs.Answers.{IsReport, IsAnswerOf}
+use Rattle.plan_stop.specs.declared.stop.Stop.{Stop}
+use Rattle.plan_stop.specs.declared.stop.Stop.TheVariants.{BadWords, ReadFailed, WriteFailed, NoMemory, Refused, NotAccepted, Limit}
+use Rattle.plan_stop.specs.Stop.{Ending, report_status, report_text, ending_status, ending_text, status_of}
+use Rattle.plan_sources.specs.declared.texts.Texts.{Texts}
+use Rattle.plan_sources.specs.Problems.{one_text, problem_of}
+use Rattle.plan_sources.specs.Laws.{HoldsTexts, IsOfTexts, OneProblemIsTold, TextsStopSo, ProblemStands}
+use Rattle.plan_app.specs.Asking.{Asks}
+use Rattle.plan_app.specs.Measuring.{line_sources, line_problem, bench_effort, bench_sizes, bench_line}
+use Rattle.plan_app.specs.Endings.{said_by, IsMeasured, AnswersLine, IsWritten, AnswersSolve, Answers, MayEndAs}
+use Rattle.plan_app.specs.Verdicts.{TellsSolve, HasVerdict, HasReport, IsDecoded, IsAccepted}
+use Rattle.plan_app.specs.Solutions.{IsAsNarrowAsPlain, Solves, PutsSolution, PutsMeasure}
+use Rattle.plan_app.proofs.Statuses.{answers_of}
+
+-- ---- intervals
+
+wider : (lo l u hi gap : ℕ) → lo ≤ l → u ≤ hi → l + gap < u → lo + gap < hi
+wider lo l u hi gap below above wide = omega (arith, below, above, wide)
+
+same_wide : (a a' b b' gap : ℕ) → a ≡ a' → b ≡ b' → a + gap < b → a' + gap < b'
+same_wide a a' b b' gap low high wide = omega (arith, low, high, wide)
+
+module _ (g : Ground) (effort : Effort) (sizes : Sizes) (c : Content) (x : Solved) (found : IsFound g effort sizes c x) where
+  -- what is wider than the gap did not converge
+  not_converged : c.lower + effort.gap < c.upper → x.ending ≢ Converged
+  not_converged wide = λ is. omega (arith, wide, found.converged.0 is)
+
+  abbrev low_after : ℕ → ℕ
+  low_after r = plain_low (ground_process g) (ground_starts g) g.start_den (rounds_at found.depth r 1)
+
+  abbrev high_after : ℕ → ℕ
+  high_after r = plain_high (ground_process g) (ground_starts g) g.start_den (rounds_at found.depth r 1)
+
+  pub found_narrow : IsAsNarrowAsPlain (ground_process g) (ground_starts g) g.start_den
+      sizes.sweep_states effort.rounds effort.gap x.rounds c.lower c.upper
+  found_narrow = record {
+    depth = found.depth;
+    fits = found.fits;
+    within_most = found.rounds;
+    low = found.low;
+    high = found.high;
+    all_rounds = λ wide. found.all_rounds (not_converged wide);
+    plain_is_wide = λ wide.
+        subst (λ r. low_after r + effort.gap < high_after r) (found.all_rounds (not_converged wide))
+        (wider (low_after x.rounds) c.lower c.upper (high_after x.rounds) effort.gap found.low found.high wide);
+  }
+
+-- as narrow over one process as over another that has the same depths and the same plain iteration
+narrow_carried : {S A T B : Type 0} (p : Process S A) (from : List (Start S)) (d : ℕ) (q : Process T B) (from' : List (Start T)) (d' : ℕ)
+    → ((k : ℕ) (depth : Option ℕ) → IsDepthWithin p from k depth ↔ IsDepthWithin q from' k depth)
+    → ((k : ℕ) → (plain_low p from d k ≡ plain_low q from' d' k) × (plain_high p from d k ≡ plain_high q from' d' k))
+    → (swept most gap rounds lower upper : ℕ)
+    → IsAsNarrowAsPlain p from d swept most gap rounds lower upper → IsAsNarrowAsPlain q from' d' swept most gap rounds lower upper
+narrow_carried p from d q from' d' depths plain swept most gap rounds lower upper is = record {
+  depth = is.depth;
+  fits = (depths swept is.depth).0 is.fits;
+  within_most = is.within_most;
+  low = subst (λ n. n ≤ lower) (plain (rounds_at is.depth rounds 1)).0 is.low;
+  high = subst (λ n. upper ≤ n) (plain (rounds_at is.depth rounds 1)).1 is.high;
+  all_rounds = is.all_rounds;
+  plain_is_wide = λ wide.
+      same_wide _ _ _ _ gap (plain (rounds_at is.depth most 1)).0 (plain (rounds_at is.depth most 1)).1 (is.plain_is_wide wide);
+}
+
+-- an interval within a narrow one is narrow
+narrow_within : (penalty k m lo hi lower upper : ℕ) → lo ≤ lower → upper ≤ hi → IsNarrow penalty k m (lo + 2) hi → IsNarrow penalty k m (lower + 2) upper
+narrow_within penalty k m lo hi lower upper below above is =
+    let up : k * 2 ^ m * upper ≤ k * 2 ^ m * hi = mul-le-mul_left (k * 2 ^ m) above in
+    let two_more : lo + 2 ≤ lower + 2 = omega (arith, below) in
+    let low : k * 2 ^ m * (lo + 2) ≤ k * 2 ^ m * (lower + 2) = mul-le-mul_left (k * 2 ^ m) two_more in
+    within (k * 2 ^ m * upper) (k * 2 ^ m * hi) (k * 2 ^ m * (lo + 2)) (k * 2 ^ m * (lower + 2)) (k * penalty) (2 ^ (m + 1) * penalty) up low is
+  where
+    within : (a b c d e f : ℕ) → a ≤ b → c ≤ d → b ≤ c + e + f → a ≤ d + e + f
+    within a b c d e f x y z = omega (arith, x, y, z)
+
+-- ---- what is said of a search
+
+said_status : (b : Bool) (text : List ℕ) (P Q : Type 0) → IsTrue b ↔ P → P ↔ Q → (report_status (said_by b text) ≡ 0) ↔ Q
+said_status true text P Q is also = ((λ zero. also.0 (is.0 refl)), (λ holds. refl))
+said_status false text P Q is also = ((λ one. absurd (omega (arith, one))), (λ holds. absurd (cc (is.1 (also.1 holds)))))
+
+said_text : (b : Bool) (text : List ℕ) → report_text (said_by b text) ≡ text
+said_text true text = refl
+said_text false text = refl
+
+told_written : (told : Told) (bytes : List ℕ) → told ≢ Untold → written told bytes ≡ Holds bytes
+told_written Untold bytes tells = absurd (tells refl)
+told_written Missing bytes tells = refl
+told_written (Holds before) bytes tells = refl
+
+-- no other ending has status 0 or 1
+text_status : (stop : Stop) → IsOfTexts stop → HasReport (status_of stop) → ⊥
+text_status (Refused code file line) so is = elim is [ inl zero ↦ omega (arith, zero) | inr one ↦ omega (arith, one) ]
+text_status (Limit code most) so is = elim is [ inl zero ↦ omega (arith, zero) | inr one ↦ omega (arith, one) ]
+text_status BadWords so is = absurd so
+text_status ReadFailed so is = absurd so
+text_status WriteFailed so is = absurd so
+text_status NoMemory so is = absurd so
+text_status (NotAccepted code row) so is = absurd so
+
+other_status : (n m : ℕ) → n ≡ m → 1 < m → HasReport n → ⊥
+other_status n m is high (inl zero) = omega (arith, is, high, zero)
+other_status n m is high (inr one) = omega (arith, is, high, one)
+
+pub report_is_a_verdict : (status : ℕ) → HasReport status → HasVerdict status
+report_is_a_verdict status is = record {
+  no_read_fault = λ e. other_status status 3 e (omega arith) is;
+  no_write_fault = λ e. other_status status 4 e (omega arith) is;
+  enough_memory = λ e. other_status status 5 e (omega arith) is;
+}
+
+-- ---- what was solved
+
+pub line_terms : AreTerms line_sources
+line_terms = record { penalty = tt; step_cost = omega arith }
+
+module _ (stands : ProblemStands) (depths : SameDepth) (plain : SamePlain) (carried : BalanceIsCarried) (enclosed : TaskIsEnclosed)
+    (narrows : (task : Task) (charges : Charges) → TaskIntervalNarrows task charges) (sums : (task : Task) → WellFormedSums task)
+    (proper : (task : Task) → ChancesAreProper task) (proper_starts : (task : Task) → StartsAreProper task) where
+  solved : (s : Sources) (t : Texts) → AreTerms s → (effort : Effort) (sizes : Sizes) (status : ℕ) (g : Ground) → problem_of s t ≡ Ok g
+      → (c : Content) (x : Solved) → IsFound g effort sizes c x → (status ≡ 0) ↔ (c.upper ≤ c.lower + effort.gap)
+      → Solves s t effort sizes status
+  solved s t are effort sizes status g is c x found converged =
+      let of_task = stands s t g are is in
+      let narrow = narrow_carried (ground_process g) (ground_starts g) g.start_den
+      (process of_task.task of_task.charges) (starts of_task.task) (start_den of_task.task)
+      (depths g of_task.task of_task.charges of_task.stands) (plain g of_task.task of_task.charges of_task.stands)
+      sizes.sweep_states effort.rounds effort.gap x.rounds c.lower c.upper (found_narrow g effort sizes c x found) in
+      let all = sums of_task.task of_task.well_formed in
+      record {
+        g = g;
+        c = c;
+        summary = x;
+        problem = is;
+        found = found;
+        converged = converged;
+        is_narrow = found_narrow g effort sizes c x found;
+        of_task = of_task;
+        balanced = (carried g of_task.task of_task.charges of_task.stands c).0 found.balanced.balanced;
+        encloses = enclosed g of_task.task of_task.charges of_task.stands c found.balanced;
+        is_narrow_for_task = narrow;
+        width = λ k N m least enough often.
+            narrow_within of_task.charges.penalty k m _ _ c.lower c.upper narrow.low narrow.high
+            (narrows of_task.task of_task.charges of_task.stands.denominators (proper of_task.task all) (proper_starts of_task.task all)
+            k N least enough m (rounds_at narrow.depth x.rounds 1) often);
+      }
+
+  module _ {S : Type 0} {held : S → List ℕ → Told} {reads writes : S → ℕ} {words : List (Bor (List ℕ))} {old new : S} {status : ℕ} {text : List ℕ}
+      (ends : MayEndAs held reads writes words old new status text) (is : HasReport status) (stops : TextsStopSo) where
+    ending_is : HasReport (ending_status ends.ending)
+    ending_is = subst HasReport ends.status_is is
+
+    -- ---- `solve`
+
+    wrote_of : (s : Solving) (t : Texts) (r : Result Ground Stop) → problem_of s.sources t ≡ r → (e : Ending) → HasReport (ending_status e)
+        → AnswersSolve held writes old new s r e → (g : Ground) × (problem_of s.sources t ≡ Ok g) × IsWritten held writes old new s g e
+    wrote_of s t (Ok g) gives e has (inl wrote) = (g, gives, wrote)
+    wrote_of s t (Ok g) gives e has (inr (inl (stop, long, says))) =
+        absurd (other_status (ending_status e) 8 (sym (ap ending_status says) ∙ ap status_of long.stop_is) (omega arith) has)
+    wrote_of s t (Ok g) gives e has (inr (inr (says, rose))) =
+        absurd (other_status (ending_status e) 4 (sym (ap ending_status says)) (omega arith) has)
+    wrote_of s t (Err stop) gives e has says =
+        absurd (text_status stop (stops s.sources t stop gives) (subst (λ e. HasReport (ending_status e)) (sym says) has))
+
+    solution_from : (s : Solving) (t : Texts) → AreTerms s.sources → held old s.certificate ≢ Untold → (g : Ground) → problem_of s.sources t ≡ Ok g
+        → IsWritten held writes old new s g ends.ending
+        → (before now : Option (List ℕ)) → Appends before now text → PutsSolution s t status (held new s.certificate) before now
+    unfolding solved
+    solution_from s t are tells g gives wrote before now put =
+        let a = wrote.answer in
+        let its = wrote.is_answer in
+        let c = its.content in
+        let zero : (status ≡ 0) ↔ (c.upper ≤ c.lower + s.effort.gap) =
+        subst (λ n. (n ≡ 0) ↔ (c.upper ≤ c.lower + s.effort.gap)) (sym (ends.status_is ∙ sym (ap ending_status wrote.says)))
+        (said_status a.converged a.report _ _ its.report.converged_is its.found.converged) in
+        record {
+          solves = solved s.sources t are s.effort s.sizes status g gives c its.solved its.found zero;
+          holds = wrote.holds ∙ told_written (held old s.certificate) a.certificate tells ∙ ap Holds its.text;
+          accepted = (
+            g,
+            c,
+            gives,
+            record {
+              text = (its.found.certificate, refl);
+              within = subst (λ v. length (text_of c) ≤ most_bytes v) (sym its.found.version)
+                  (subst (λ bytes. length bytes ≤ most_bytes 2) its.text its.short);
+            },
+            its.found.balanced,
+          );
+          put = subst (Appends before now)
+              (ends.text_is ∙ sym (ap ending_text wrote.says) ∙ said_text a.converged a.report ∙ its.report.text) put;
+        }
+
+    pub solution_put : (told : OneProblemIsTold) (s : Solving) (t : Texts) → AreTerms s.sources → TellsSolve words (held old) s t
+        → (before now : Option (List ℕ)) → Appends before now text → PutsSolution s t status (held new s.certificate) before now
+    solution_put told s t are tells before now put =
+        let answers = answers_of ends (to_solve s) tells.asks (report_is_a_verdict status is) in
+        let found = wrote_of s t answers.0 (told (held old) s.sources t tells.texts answers.0 answers.1) ends.ending ending_is answers.2 in
+        solution_from s t are tells.certificate found.0 found.1 found.2 before now put
+
+    -- ---- `bench`
+
+    measured_of : (places seed : ℕ) (r : Result Ground Stop) → line_problem places seed ≡ r → (e : Ending) → HasReport (ending_status e)
+        → AnswersLine places seed r e → (g : Ground) × (line_problem places seed ≡ Ok g) × IsMeasured places seed g e
+    measured_of places seed (Ok g) gives e has measured = (g, gives, measured)
+    measured_of places seed (Err stop) gives e has says =
+        absurd (text_status stop (stops line_sources (one_text (line_text places seed)) stop gives)
+        (subst (λ e. HasReport (ending_status e)) (sym says) has))
+
+    measure_from : (places seed : ℕ) (g : Ground) → line_problem places seed ≡ Ok g → IsMeasured places seed g ends.ending
+        → (before now : Option (List ℕ)) → Appends before now text → PutsMeasure places seed status before now
+    unfolding solved
+    measure_from places seed g gives said before now put =
+        let m = said.measured in
+        let its = said.is_measured in
+        let c = its.content in
+        let zero : (status ≡ 0) ↔ (c.upper ≤ c.lower + 1000000) =
+        subst (λ n. (n ≡ 0) ↔ (c.upper ≤ c.lower + 1000000)) (sym (ends.status_is ∙ sym (ap ending_status said.says)))
+        (said_status m.converged (bench_line places seed ++ m.report) _ _ its.report.converged_is its.found.converged) in
+        record {
+          solves = solved line_sources (one_text (line_text places seed)) line_terms (bench_effort seed) bench_sizes status
+              g gives c its.solved its.found zero;
+          put = subst (Appends before now)
+              (ends.text_is ∙ sym (ap ending_text said.says) ∙ said_text m.converged (bench_line places seed ++ m.report)
+              ∙ ap (λ report. bench_line places seed ++ report) its.report.text) put;
+        }
+
+    pub measure_put : (places seed : ℕ) → Asks words (to_bench places seed)
+        → (before now : Option (List ℕ)) → Appends before now text → PutsMeasure places seed status before now
+    measure_put places seed asks before now put =
+        let answers = answers_of ends (to_bench places seed) asks (report_is_a_verdict status is) in
+        let found = measured_of places seed answers.0 answers.1 ends.ending ending_is answers.2 in
+        measure_from places seed found.0 found.1 found.2 before now put

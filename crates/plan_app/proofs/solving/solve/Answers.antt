@@ -1,0 +1,71 @@
+-- The ground problem of the texts, what a search of it answers, and what is written.
+use Rattle.std.proofs.Common.{rules}
+use Rattle.plan_request.specs.Shown.{shown_solving}
+use Rattle.plan_app.proofs.Flow.{solve_stops, search_stops, wrote, under_name, leaves, nothing_written, calls_alone, calls_behind}
+use Rattle.plan_app.proofs.Names.{given_names}
+use Rattle.plan_app.proofs.solving.solve.Goals as goal
+
+-- ---- the texts have no problem
+
+pub returns-in_err-problem-clause-ends : goal.returns-in_err-problem-clause-ends
+returns-in_err-problem-clause-ends g c =
+    let stop = solve_stops g.S.Shelf.held g.S.Shelf.read_faults g.S.Shelf.write_faults c.args.shelf.now (shown_solving c.args.solving.now)
+    c.problem_of.new.shelf c.in_err-problem.field-0.0 c.in_err-problem.ensures.ends in
+    search (rules, stop)
+
+pub returns-in_err-problem-clause-calls : goal.returns-in_err-problem-clause-calls
+returns-in_err-problem-clause-calls g c =
+    calls_alone g.S.Shelf.held g.S.Shelf.calls c.args.shelf.now c.problem_of.new.shelf (shown_solving c.args.solving.now).sources c.problem_of.ensures.calls
+
+pub returns-in_err-problem-clause-shelf : goal.returns-in_err-problem-clause-shelf
+returns-in_err-problem-clause-shelf g c =
+    nothing_written g.S.Shelf.held g.S.Shelf.read_faults g.S.Shelf.write_faults c.args.shelf.now (shown_solving c.args.solving.now)
+    c.problem_of.new.shelf c.problem_of.ensures.shelf
+
+-- ---- its names are those of certificates
+
+pub solve-requires-clause-names : goal.solve-requires-clause-names
+solve-requires-clause-names g c κs within =
+    given_names c.source_laws.ensures.stands (g.S.Shelf.held c.args.shelf.now) (shown_solving c.args.solving.now).sources
+    c.in_ok-problem.problem c.requires.terms c.in_ok-problem.ensures.ends
+
+-- ---- the search has no answer
+
+pub returns-in_err-answer-clause-ends : goal.returns-in_err-answer-clause-ends
+returns-in_err-answer-clause-ends g c =
+    let stop = search_stops g.S.Shelf.held g.S.Shelf.read_faults g.S.Shelf.write_faults c.args.shelf.now (shown_solving c.args.solving.now)
+    c.in_ok-problem.problem c.in_ok-problem.ensures.ends c.problem_of.new.shelf c.in_err-answer.field-0.0 c.in_err-answer.ensures.stops in
+    search (rules, stop)
+
+pub returns-in_err-answer-clause-calls : goal.returns-in_err-answer-clause-calls
+returns-in_err-answer-clause-calls g c =
+    calls_alone g.S.Shelf.held g.S.Shelf.calls c.args.shelf.now c.problem_of.new.shelf (shown_solving c.args.solving.now).sources c.problem_of.ensures.calls
+
+pub returns-in_err-answer-clause-shelf : goal.returns-in_err-answer-clause-shelf
+returns-in_err-answer-clause-shelf g c =
+    nothing_written g.S.Shelf.held g.S.Shelf.read_faults g.S.Shelf.write_faults c.args.shelf.now (shown_solving c.args.solving.now)
+    c.problem_of.new.shelf c.problem_of.ensures.shelf
+
+-- ---- it has one
+
+pub returns-clause-ends : goal.returns-clause-ends
+returns-clause-ends g c =
+    wrote g.S.Shelf.held g.S.Shelf.read_faults g.S.Shelf.write_faults c.args.shelf.now (shown_solving c.args.solving.now)
+    c.in_ok-problem.problem c.in_ok-problem.ensures.ends c.problem_of.new.shelf c.write.new.shelf c.problem_of.ensures.shelf.held_same
+    c.in_ok-answer.answer c.in_ok-answer.ensures.answer c.write.result c.problem_of.ensures.shelf.no_write_fault
+    c.write.ensures.report c.write.ensures.written c.write.ensures.stops
+
+pub returns-clause-calls : goal.returns-clause-calls
+returns-clause-calls g c =
+    calls_behind g.S.Shelf.held g.S.Shelf.calls c.args.shelf.now c.problem_of.new.shelf c.write.new.shelf (shown_solving c.args.solving.now).sources
+    (c.in_ok-problem.problem, c.in_ok-problem.ensures.ends) c.problem_of.ensures.calls c.write.ensures.calls
+
+pub returns-clause-shelf : goal.returns-clause-shelf
+returns-clause-shelf g c =
+    leaves g.S.Shelf.held g.S.Shelf.read_faults g.S.Shelf.write_faults c.args.shelf.now (shown_solving c.args.solving.now)
+    c.in_ok-problem.problem c.in_ok-problem.ensures.ends c.problem_of.new.shelf c.write.new.shelf c.problem_of.ensures.shelf.held_same
+    c.in_ok-answer.answer c.in_ok-answer.ensures.answer c.problem_of.ensures.shelf
+    (under_name g.S.Shelf.held g.S.Shelf.read_faults g.S.Shelf.write_faults c.args.shelf.now (shown_solving c.args.solving.now)
+    c.in_ok-problem.problem c.in_ok-problem.ensures.ends c.problem_of.new.shelf c.write.new.shelf c.problem_of.ensures.shelf.held_same
+    c.in_ok-answer.answer c.in_ok-answer.ensures.answer c.write.result c.write.ensures.written c.write.ensures.stops c.write.ensures.memory)
+    c.write.ensures.others c.write.ensures.reads c.write.ensures.once

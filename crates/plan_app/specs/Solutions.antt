@@ -1,0 +1,91 @@
+-- What a search that ended with a report found, and what was put.
+--     IsAsNarrowAsPlain p starts den swept most gap rounds lower upper
+--                                   the interval lies within that of plain rounded iteration of as many of the rounds as reach the
+--                                   starts from the swept states; it is wider than the gap only behind the most rounds, and then so is
+--                                   that of plain iteration
+--     Solves s t effort sizes status
+--                                   a certificate was found for the ground problem of the texts, which encloses the cost of their task,
+--                                   and the status says whether its interval is as narrow as was asked for
+--     report_of found               the report of such a search
+--     PutsSolution s t status now old new
+--                                   the certificate that was found is held now, where it is accepted, and the report was put
+--     PutsMeasure places seed status old new
+--                                   the line of places was solved so, and the report was put
+-- Sources: plain rounded iteration is value iteration from both sides; penalties for dead ends are those of Kolobov, Mausam and Weld
+-- (2012), and the interval is that of BRTDP (McMahan, Likhachev and Gordon 2005).
+use Rattle.std.specs.Prelude.{◌≡◌, ◌↔◌, ℕ, ◌+◌, ◌*◌, ◌<◌, ◌≤◌, List, ◌++◌, Option, Ok}
+use Rattle.std.specs.Io.KnownBytes.{Appends}
+use Rattle.shelf_io.specs.Shelf.{Told, Holds}
+use Rattle.sweep_levels.specs.Sweeps.{rounds_at}
+use Rattle.certificate.specs.Content.{Content, text_of}
+use Rattle.certificate_check.specs.Claims.{ground_certificate}
+use Rattle.decision_process.specs.Enclosing.{Encloses}
+use Rattle.decision_process.specs.Levels.{IsDepthWithin}
+use Rattle.decision_process.specs.Process.{Process, Start}
+use Rattle.decision_process.specs.Readings.{act, IsBalancedCertificate}
+use Rattle.decision_process.specs.Rounded.{plain_low, plain_high}
+use Rattle.ppddl_model.specs.State.{same_state}
+use Rattle.ppddl_model.specs.Steps.{process, starts, start_den, least_step_cost}
+use Rattle.iteration_progress.specs.Width.{IsNarrow}
+use Rattle.ground_model.specs.Ground.{Ground}
+use Rattle.ground_model.specs.Steps.{ground_process, ground_starts}
+use Rattle.task_certificates.specs.Carried.{task_certificate}
+use Rattle.plan_request.specs.declared.effort.Effort.{Effort}
+use Rattle.plan_request.specs.declared.sizes.Sizes.{Sizes}
+use Rattle.plan_request.specs.Asked.{Sources, Solving}
+use Rattle.plan_report.specs.Solved.{Solved, solve_text}
+use Rattle.plan_search.specs.Found.{IsFound}
+use Rattle.plan_stop.specs.declared.status.TheConstants.{DONE}
+use Rattle.plan_sources.specs.declared.texts.Texts.{Texts}
+use Rattle.plan_sources.specs.Problems.{one_text, problem_of}
+use Rattle.plan_sources.specs.Laws.{StandsForTexts}
+use Rattle.plan_report.specs.Line.{line_text}
+use Rattle.plan_app.specs.Measuring.{line_sources, bench_effort, bench_sizes, bench_line}
+use Rattle.plan_app.specs.Verdicts.{IsAccepted}
+
+module _ {S A : Type 0} (p : Process S A) (starts : List (Start S)) (den : ℕ) where
+  pub record IsAsNarrowAsPlain (swept most gap rounds lower upper : ℕ) : Type 0 where
+    pub depth : Option ℕ
+    pub fits : IsDepthWithin p starts swept depth
+    pub within_most : rounds ≤ most
+    pub low : plain_low p starts den (rounds_at depth rounds 1) ≤ lower
+    pub high : upper ≤ plain_high p starts den (rounds_at depth rounds 1)
+    pub all_rounds : lower + gap < upper → rounds ≡ most
+    pub plain_is_wide : lower + gap < upper
+        → plain_low p starts den (rounds_at depth most 1) + gap < plain_high p starts den (rounds_at depth most 1)
+
+pub record Solves (s : Sources) (t : Texts) (effort : Effort) (sizes : Sizes) (status : ℕ) : Type 0 where
+  pub g : Ground
+  pub c : Content
+  pub summary : Solved
+  pub problem : problem_of s t ≡ Ok g
+  pub found : IsFound g effort sizes c summary
+  pub converged : (status ≡ DONE) ↔ (c.upper ≤ c.lower + effort.gap)
+  pub is_narrow : IsAsNarrowAsPlain (ground_process g) (ground_starts g) g.start_den
+      sizes.sweep_states effort.rounds effort.gap summary.rounds c.lower c.upper
+  -- of the task
+  pub of_task : StandsForTexts s t g
+  pub balanced : IsBalancedCertificate (process of_task.task of_task.charges) same_state
+      (starts of_task.task) (start_den of_task.task) (task_certificate g of_task.task c)
+  pub encloses : Encloses (process of_task.task of_task.charges) (starts of_task.task) (start_den of_task.task)
+      c.lower c.upper (act same_state (task_certificate g of_task.task c).rows)
+  pub is_narrow_for_task : IsAsNarrowAsPlain (process of_task.task of_task.charges) (starts of_task.task) (start_den of_task.task)
+      sizes.sweep_states effort.rounds effort.gap summary.rounds c.lower c.upper
+  -- how wide the interval is at most, known beforehand: each step costs at least k + 1, and N is at least twice the penalty over k
+  pub width : (k N m : ℕ) → k + 1 ≤ least_step_cost of_task.task of_task.charges → 2 * of_task.charges.penalty ≤ N * k
+      → m * N ≤ rounds_at is_narrow_for_task.depth summary.rounds 1
+      → IsNarrow of_task.charges.penalty k m (c.lower + 2) c.upper
+
+module _ {s : Sources} {t : Texts} {effort : Effort} {sizes : Sizes} {status : ℕ} where
+  abbrev pub report_of : Solves s t effort sizes status → List ℕ
+  report_of found = solve_text found.g (ground_certificate found.g found.c).rows found.summary
+
+pub record PutsSolution (s : Solving) (t : Texts) (status : ℕ) (now : Told) (old new : Option (List ℕ)) : Type 0 where
+  pub solves : Solves s.sources t s.effort s.sizes status
+  pub holds : now ≡ Holds (text_of solves.c)
+  pub accepted : IsAccepted s.sources t (text_of solves.c)
+  pub put : Appends old new (report_of solves)
+
+pub record PutsMeasure (places seed : ℕ) (status : ℕ) (old new : Option (List ℕ)) : Type 0 where
+  pub solves : Solves line_sources (one_text (line_text places seed)) (bench_effort seed) bench_sizes status
+  pub put : Appends old new (bench_line places seed ++ report_of solves)
