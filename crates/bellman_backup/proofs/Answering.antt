@@ -63,7 +63,7 @@ module _ (g : Ground) (v w : View) (s : State) where
   best_of found last best each = All-contains (IsFound g v w s) found best.best each
       (subst (λ (xs : List Found). Contains xs best.best) (sym best.split) (Contains-append_right best.before (best.best ∷ best.behind) best.best (Contains-first best.best best.behind)))
 
-  no_choices : (code : ℕ) → AreChoices (no_action code)
+  pub no_choices : (code : ℕ) → AreChoices (no_action code)
   no_choices code = record {
     positive = All-nil (λ w. 0 < w);
     whole = λ some. absurd (omega arith);

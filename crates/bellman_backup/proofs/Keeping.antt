@@ -1,12 +1,12 @@
 -- The same pass later.
-use Rattle.std.proofs.Common.{◌≡◌, ℕ, Bool, true, false, cond, nat_eq, List, [], ◌∷◌, ◌++◌, refl, sym, ap, ◌∙◌, subst, append_assoc}
+use Rattle.std.proofs.Common.{◌≡◌, ℕ, Bool, true, false, cond, nat_eq, List, [], ◌∷◌, ◌++◌, refl, sym, ap, ◌∙◌, subst, append_assoc, arith}
 use Rattle.word_view.specs.declared.notes.Look.{Look}
 use Rattle.word_view.specs.declared.notes.Look.TheVariants.{End}
 use Rattle.word_view.specs.declared.view.View.{View}
 use Rattle.word_view.specs.Laws.{HasMore}
-use Rattle.word_view.specs.Steps.{with_lower, with_upper, with_count, with_state_word}
+use Rattle.word_view.specs.Steps.{with_lower, with_upper, with_count, with_state_word, united, without_rights}
 use Rattle.word_view.proofs.Seen.{more_is_later}
-use Rattle.word_view.proofs.Noting.{noted_is_more}
+use Rattle.word_view.proofs.Noting.{noted_is_more, united_is_more}
 use Rattle.word_table.specs.Seen.{Board, Knowledge, knowledge, IsOf}
 use Rattle.bound_words.specs.declared.bounds.Interval.{Interval}
 use Rattle.bound_words.specs.Intervals.{with_interval, word_in}
@@ -65,3 +65,13 @@ keeps_interval b k l id i of is = keeps_step b k l (with_interval k.view id i) o
 
 pub keeps_count : (b : Board) (k l : Knowledge) (n : ℕ) → IsOf b k → l ≡ knowledge k.table (with_count k.view n) → Keeps b k l
 keeps_count b k l n of is = keeps_step b k l (with_count k.view n) of is refl refl ((noted_is_more k.view).count n) (count_looks (nat_eq n k.view.layout.ids) k.view.looks)
+
+-- a pass that has met another
+pub meets : (b : Board) (k l m : Knowledge) → IsOf b k → IsOf b l → m ≡ knowledge k.table (united k.view (without_rights l.view))
+    → Keeps b k m × HasMore l.view m.view
+meets b k l m of other is =
+    let both = united_is_more k.view (without_rights l.view) (other.view.problem ∙ sym of.view.problem) (other.view.layout ∙ sym of.view.layout) in (
+      keeps_step b k m (united k.view (without_rights l.view)) of is refl (omega arith) both.0 ([], refl),
+      subst (λ (n : Knowledge). HasMore l.view n.view) (sym is)
+          (has_more_again l.view (without_rights l.view) (united k.view (without_rights l.view)) (noted_is_more l.view).rights both.1),
+    )

@@ -7,5 +7,8 @@ pub mod Narrowing
 pub mod Answering
 pub mod Stepping
 pub mod Finishing
+pub mod KeptRows
+pub mod TransitionsKept
+pub mod KeptReads
 pub mod Racers
 pub mod StartWeights

@@ -7,7 +7,7 @@ use Rattle.std.proofs.lemmas.Map.Views.{Contains-from_any}
 use Rattle.plain_list.proofs.Members.{Contains-nil, Contains-cons_cases}
 use Rattle.word_view.specs.Views.{knows}
 use Rattle.word_table.specs.Seen.{Board, Knowledge, IsOf}
-use Rattle.bellman_backup.specs.Scratches.{ScratchView}
+use Rattle.bellman_backup.specs.Scratches.{ScratchView, IsScratchOf}
 use Rattle.bellman_backup.specs.Races.{IsReady, IsRacing, Races}
 use Rattle.bellman_backup.specs.Backups.{Keeps}
 
@@ -25,7 +25,7 @@ pub racing_is_ready : (b : Board) (k : Knowledge) (x : ScratchView) → IsRacing
 racing_is_ready b k x is = record {
   here = is.here;
   right = is.right;
-  problem = is.problem;
+  scratch = is.scratch;
   starts = λ id below. known_again k.view.known id (is.starts id below);
 }
 
@@ -33,15 +33,15 @@ pub ready_is_racing : (b : Board) (k : Knowledge) (x : ScratchView) → IsReady 
 ready_is_racing b k x is = record {
   here = is.here;
   right = is.right;
-  problem = is.problem;
+  scratch = is.scratch;
   starts = λ id below. any_there k.view.known id (is.starts id below);
 }
 
-pub races_still : (b : Board) (k l : Knowledge) (x y : ScratchView) → IsRacing b k x → Keeps b k l → y.problem ≡ x.problem → IsRacing b l y
-races_still b k l x y is keeps same = record {
+pub races_still : (b : Board) (k l : Knowledge) (x y : ScratchView) → IsRacing b k x → Keeps b k l → IsScratchOf b y → IsRacing b l y
+races_still b k l x y is keeps of = record {
   here = keeps.here;
   right = (let r = is.right in let e = keeps.rights in omega arith);
-  problem = same ∙ is.problem;
+  scratch = of;
   starts = λ id below. any_there l.view.known id (keeps.noted.known id (known_again k.view.known id (is.starts id below)));
 }
 

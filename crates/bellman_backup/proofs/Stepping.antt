@@ -18,7 +18,6 @@ use Rattle.ground_model.specs.Invariant.{IsChoice, IsGroundProblem}
 use Rattle.ground_model.specs.Steps.{ground_process, den_of, is_open_at, outcome_of, step_at}
 use Rattle.ground_step.proofs.Outcomes.{cost_within}
 use Rattle.bound_core.specs.Numbers.{first_word}
-use Rattle.word_view.specs.declared.notes.Load.TheVariants.{Lower, Upper}
 use Rattle.word_view.specs.declared.view.View.{View}
 use Rattle.word_view.specs.Views.{IsReached}
 use Rattle.word_view.specs.Laws.{HasMore}
@@ -29,7 +28,7 @@ use Rattle.bound_words.specs.Intervals.{with_interval, word_in, TellsInterval}
 use Rattle.brtdp_trial.specs.declared.step.Step.{Step}
 use Rattle.state_interner.specs.Interned.{GoesOn, IsIdOf, IsFull}
 use Rattle.bellman_backup.specs.declared.sums.Sums.{Sums}
-use Rattle.bellman_backup.specs.Readings.{Reading, IsRead}
+use Rattle.bellman_backup.specs.Readings.{Reading, IsRead, loads_of}
 use Rattle.bellman_backup.specs.Backups.{Keeps}
 use Rattle.bellman_backup.specs.Totals.{IsUsable, IsSmallStep, HasReadNext, HasRead}
 use Rattle.bellman_backup.specs.Choosing.{IsOpenState}
@@ -50,20 +49,28 @@ interned_grows b k l on = record { later = more_is_later k.view l.view on.noted;
 pub problem_of : (b : Board) (k : Knowledge) → IsOf b k → k.view.problem ≡ b.problem
 problem_of b k of = of.view.problem
 
-pub id_is_next : (b : Board) (k l m : Knowledge) (t : State) (id : ℕ) (i : Interval) (weight : ℕ) (x : Step) → IsOf b k → GoesOn b k l → IsIdOf l.view t id
+pub id_is_next : (b : Board) (l m : Knowledge) (t : State) (id : ℕ) (i : Interval) (weight : ℕ) (x : Step) → IsOf b l → IsIdOf l.view t id
     → i.code < 65536 → m ≡ knowledge l.table (with_interval l.view id i) → TellsInterval b.problem l.view id i
-    → x ≡ record { weight = weight; id = Some id; lower = i.lower; upper = i.upper } → HasReadNext b.problem k.view m.view t weight x
-id_is_next b k l m t id i weight x of on its small is tells same =
+    → x ≡ record { weight = weight; id = Some id; lower = i.lower; upper = i.upper } → HasReadNext b.problem l.view m.view t weight x
+id_is_next b l m t id i weight x of its small is tells same =
     let r : Reading = reading_of id i in
-    let here : IsRead b.problem l.view (with_interval l.view id i) t r = id_is_read b.problem l.view t id i (problem_of b l on.here) small its tells in
     let value : i.upper ≡ value_of (word_in i) = omega arith in
-    subst (λ (n : Knowledge). HasReadNext b.problem k.view n.view t weight x) (sym is) (record {
+    subst (λ (n : Knowledge). HasReadNext b.problem l.view n.view t weight x) (sym is) (record {
       reading = r;
-      is = read_stays b.problem k.view l.view (with_interval l.view id i) (with_interval l.view id i) t r
-          (interned_grows b k l on) (grows_all (with_interval l.view id i)) here;
-      loads = ap (λ ls. Upper id (word_in i) ∷ Lower id i.lower ∷ ls) on.loads;
+      is = id_is_read b.problem l.view t id i (problem_of b l of) small its tells;
+      loads = refl;
       step = same ∙ (λ j. record { weight = weight; id = Some id; lower = i.lower; upper = value j });
     })
+
+-- the same since the state was interned
+pub next_since : (b : Board) (k l m : Knowledge) (t : State) (weight : ℕ) (x : Step) → GoesOn b k l → HasReadNext b.problem l.view m.view t weight x
+    → HasReadNext b.problem k.view m.view t weight x
+next_since b k l m t weight x on next = record {
+  reading = next.reading;
+  is = read_stays b.problem k.view l.view m.view m.view t next.reading (interned_grows b k l on) (grows_all m.view) next.is;
+  loads = next.loads ∙ ap (λ ls. loads_of next.reading ++ ls) on.loads;
+  step = next.step;
+}
 
 pub none_is_next : (b : Board) (k l : Knowledge) (t : State) (weight : ℕ) (x : Step) → IsOf b k → GoesOn b k l → IsFull k.view t l.view
     → (upper : ℕ) → upper ≡ value_of (first_word b.problem t) → x ≡ record { weight = weight; id = None; lower = 0; upper = upper }
@@ -129,7 +136,7 @@ open_later g v w s more is = record {
 
 pub record ReadSoFar (b : Board) (k l : Knowledge) (s : State) (cs : List Choice) (steps : List Step) (sums : Sums) (i : ℕ) : Type 0 where
   pub keeps : Keeps b k l
-  pub read : (rs : List Reading) × HasRead b.problem k.view l.view s cs rs steps sums
+  pub read : (rs : List Reading) × HasRead b.problem k.view l.view s (cost_of (has_bit s)) cs rs steps sums
   pub long : length steps ≡ i
   pub lower_room : sums.lower ≤ i * (10 ^ 18 * (11 * 10 ^ 13))
   pub upper_room : sums.upper ≤ i * (10 ^ 18 * (11 * 10 ^ 13))
@@ -166,9 +173,9 @@ read_goes_on b k l m s cs cs' c steps steps' sums sums' i x cost far more keeps 
       keeps = keeps_again b k l m far.keeps keeps;
       read = (
         far.read.0 ++ next.reading ∷ [],
-        subst (λ ds. HasRead b.problem k.view m.view s ds (far.read.0 ++ next.reading ∷ []) steps' sums') (sym more)
-            (subst (λ xs. HasRead b.problem k.view m.view s (cs ++ c ∷ []) (far.read.0 ++ next.reading ∷ []) xs sums') (sym pushed)
-            (read_more b.problem k.view l.view m.view s (grows b k l far.keeps) (grows b l m keeps) cs far.read.0 steps sums sums' c x cost far.read.1 next same lower upper)),
+        subst (λ ds. HasRead b.problem k.view m.view s (cost_of (has_bit s)) ds (far.read.0 ++ next.reading ∷ []) steps' sums') (sym more)
+            (subst (λ xs. HasRead b.problem k.view m.view s (cost_of (has_bit s)) (cs ++ c ∷ []) (far.read.0 ++ next.reading ∷ []) xs sums') (sym pushed)
+            (read_more b.problem k.view l.view m.view s (cost_of (has_bit s)) (grows b k l far.keeps) (grows b l m keeps) cs far.read.0 steps sums sums' c x cost far.read.1 next same lower upper)),
       );
       long = ap length pushed ∙ length_push steps x ∙ ap (λ n. n + 1) far.long;
       lower_room = omega arith;

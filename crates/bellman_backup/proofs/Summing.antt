@@ -91,26 +91,26 @@ steps_more R [] (v ∷ rs) c r all = absurd all
 steps_more R (u ∷ cs) [] c r all = absurd all
 steps_more R (u ∷ cs) (v ∷ rs) c r all = ap (λ xs. step_with u.weight v ∷ xs) (steps_more R cs rs c r all.1)
 
-pub nothing_read : (g : Ground) (v : View) (s : State) (sums : Sums) → sums.lower ≡ 0 → sums.upper ≡ 0 → HasRead g v v s [] [] [] sums
-nothing_read g v s sums lower upper = record { readings = tt; loads = refl; steps_are = refl; lower = lower; upper = upper }
+pub nothing_read : (g : Ground) (v : View) (s : State) (price : Choice → ℕ) (sums : Sums) → sums.lower ≡ 0 → sums.upper ≡ 0 → HasRead g v v s price [] [] [] sums
+nothing_read g v s price sums lower upper = record { readings = tt; loads = refl; steps_are = refl; lower = lower; upper = upper }
 
-module _ (g : Ground) (u v w : View) (s : State) (before : Grows u v) (after : Grows v w) where
+module _ (g : Ground) (u v w : View) (s : State) (price : Choice → ℕ) (before : Grows u v) (after : Grows v w) where
   pub read_more : (cs : List Choice) (rs : List Reading) (steps : List Step) (sums sums' : Sums) (c : Choice) (x : Step) (cost : ℕ)
-      → HasRead g u v s cs rs steps sums → (next : HasReadNext g v w (next_state s c) c.weight x) → cost ≡ cost_of (has_bit s) c
+      → HasRead g u v s price cs rs steps sums → (next : HasReadNext g v w (next_state s c) c.weight x) → cost ≡ price c
       → sums'.lower ≡ sums.lower + x.weight * (cost + x.lower) → sums'.upper ≡ sums.upper + x.weight * (cost + x.upper)
-      → HasRead g u w s (cs ++ c ∷ []) (rs ++ next.reading ∷ []) (steps ++ x ∷ []) sums'
+      → HasRead g u w s price (cs ++ c ∷ []) (rs ++ next.reading ∷ []) (steps ++ x ∷ []) sums'
   read_more cs rs steps sums sums' c x cost has next same lower upper =
       let r : Reading = next.reading in
       let R : Choice → Reading → Type 0 = λ d y. IsRead g u w (next_state s d) y in
       let old : AllZip R cs rs = zip_weaker (λ d y. IsRead g u v (next_state s d) y) R cs rs
       (λ d y is. read_stays g u u v w (next_state s d) y (grows_all u) after is) has.readings in
       let new : R c r = read_stays g u v w w (next_state s c) r before (grows_all w) next.is in
-      let low : x.weight * (cost + x.lower) ≡ c.weight * (cost_of (has_bit s) c + r.lower) = λ i. (next.step i).weight * (same i + (next.step i).lower) in
-      let high : x.weight * (cost + x.upper) ≡ c.weight * (cost_of (has_bit s) c + value_of r.word) = λ i. (next.step i).weight * (same i + (next.step i).upper) in record {
+      let low : x.weight * (cost + x.lower) ≡ c.weight * (price c + r.lower) = λ i. (next.step i).weight * (same i + (next.step i).lower) in
+      let high : x.weight * (cost + x.upper) ≡ c.weight * (price c + value_of r.word) = λ i. (next.step i).weight * (same i + (next.step i).upper) in record {
         readings = zip_more R cs rs c r old new;
         loads = next.loads ∙ ap (λ ls. loads_of r ++ ls) has.loads ∙ sym (append_assoc (loads_of r) (loads_in rs) u.loads)
             ∙ ap (λ ls. ls ++ u.loads) (sym (loads_more rs r));
         steps_are = (λ i. has.steps_are i ++ next.step i ∷ []) ∙ sym (steps_more R cs rs c r old);
-        lower = lower ∙ (λ i. has.lower i + low i) ∙ sym (sum_more R (λ d. d.weight) (cost_of (has_bit s)) (λ y. y.lower) cs rs c r old);
-        upper = upper ∙ (λ i. has.upper i + high i) ∙ sym (sum_more R (λ d. d.weight) (cost_of (has_bit s)) (λ y. value_of y.word) cs rs c r old);
+        lower = lower ∙ (λ i. has.lower i + low i) ∙ sym (sum_more R (λ d. d.weight) price (λ y. y.lower) cs rs c r old);
+        upper = upper ∙ (λ i. has.upper i + high i) ∙ sym (sum_more R (λ d. d.weight) price (λ y. value_of y.word) cs rs c r old);
       }

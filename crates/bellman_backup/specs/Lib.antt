@@ -1,8 +1,11 @@
 pub mod Readings
 pub mod Candidates
 pub mod Examples
+pub mod Kept
+pub mod Growing
 pub mod Scratches
 pub mod Backups
 pub mod Totals
 pub mod Choosing
+pub mod Weighing
 pub mod Races

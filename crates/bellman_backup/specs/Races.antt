@@ -11,18 +11,18 @@ use Rattle.word_view.specs.declared.view.View.{View}
 use Rattle.word_view.specs.Views.{knows}
 use Rattle.word_view.specs.Laws.{HasMore}
 use Rattle.word_table.specs.Seen.{Board, Knowledge, IsOf}
-use Rattle.bellman_backup.specs.Scratches.{ScratchView}
+use Rattle.bellman_backup.specs.Scratches.{ScratchView, IsScratchOf}
 
 pub record IsReady (b : Board) (k : Knowledge) (x : ScratchView) : Type 0 where
   pub here : IsOf b k
   pub right : 0 < k.view.rights
-  pub problem : x.problem ≡ b.problem
+  pub scratch : IsScratchOf b x
   pub starts : (id : ℕ) → id < length b.problem.starts → knows k.view id
 
 pub record IsRacing (b : Board) (k : Knowledge) (x : ScratchView) : Type 0 where
   pub here : IsOf b k
   pub right : 0 < k.view.rights
-  pub problem : x.problem ≡ b.problem
+  pub scratch : IsScratchOf b x
   pub starts : (id : ℕ) → id < length b.problem.starts → list_any (nat_eq id) k.view.known ≡ true
 
 pub record Races (b : Board) (k : Knowledge) (x : ScratchView) (c : Board) (l : Knowledge) (y : ScratchView) :

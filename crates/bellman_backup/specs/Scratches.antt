@@ -1,13 +1,16 @@
 -- What contracts see of a scratch.
---     ScratchView                the problem that it was made for, and the last answer with its choices as they were read
+--     ScratchView                the problem that it was made for, the last answer with its choices as they were read, and the witness:
+--                                a pass that has noted all that the kept transitions rest on, if any are kept
 --     new_scratch g              a scratch with which nothing was backed up yet
+--     IsScratchOf b x            a scratch for these words: of their problem, with a witness on their table
 --     AreBuffers g codes state next
 --                                there is room for the codes of all actions, and both states have the problem's length
-use Rattle.std.specs.Prelude.{◌≡◌, ◌≤◌, length}
+use Rattle.std.specs.Prelude.{◌≡◌, ◌≤◌, Option, Some, None, length}
 use Rattle.ground_model.specs.Packed.{State}
 use Rattle.ground_model.specs.Ground.{Ground}
 use Rattle.bound_core.specs.Core.{width}
 use Rattle.open_actions.specs.Codes.{Codes}
+use Rattle.word_table.specs.Seen.{Board, Knowledge, IsOf}
 use Rattle.brtdp_trial.specs.declared.step.TheConstants.{GIVE_UP}
 use Rattle.brtdp_trial.specs.Meaning.{Last}
 use Rattle.brtdp_trial.specs.Listed.{no_action}
@@ -15,9 +18,14 @@ use Rattle.brtdp_trial.specs.Listed.{no_action}
 pub record ScratchView : Type 0 where
   pub problem : Ground
   pub last : Last
+  pub witness : Option Knowledge
 
 abbrev pub new_scratch : Ground → ScratchView
-new_scratch g = record { problem = g; last = no_action GIVE_UP }
+new_scratch g = record { problem = g; last = no_action GIVE_UP; witness = None }
+
+pub record IsScratchOf (b : Board) (x : ScratchView) : Type 0 where
+  pub problem : x.problem ≡ b.problem
+  pub witness : (k : Knowledge) → x.witness ≡ Some k → IsOf b k
 
 pub record AreBuffers (g : Ground) (codes : Codes) (state next : State) : Type 0 where
   pub codes_fit : length g.actions ≤ codes.room

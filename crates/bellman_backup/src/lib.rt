@@ -5,12 +5,17 @@
 mod backing;
 mod best;
 mod choosing;
+mod expanding;
+mod learning;
 mod outcomes;
 mod racing;
+mod recalling;
 mod scratch;
+mod settling;
 mod states;
 mod steps;
 mod sums;
+mod weighing;
 
 pub use backing::backup;
 pub use brtdp_trial::{Backed, Step};

@@ -1,8 +1,10 @@
 //! What a choice leads to.
 
 ghost use Rattle.std.specs.Prelude.{◌≡◌, ◌<◌, length};
-ghost use Rattle.word_view.specs.Views.{IsReached};
+ghost use Rattle.ground_model.specs.Packed.{State};
+ghost use Rattle.word_view.specs.Views.{knows, IsReached};
 ghost use Rattle.word_table.specs.Seen.{IsOf};
+ghost use Rattle.state_interner.specs.Interned.{IsIdOf};
 ghost use Rattle.bellman_backup.specs.Backups.{Keeps};
 ghost use Rattle.bellman_backup.specs.Totals.{HasReadAction, HasReadNext, IsUsable};
 
@@ -16,6 +18,23 @@ use ground_step::apply;
 use state_interner::{Interned, intern};
 use word_table::{Pass, Words};
 
+/// A choice that leads to a state with this id, with what is read of it.
+pub(crate) fn read_id(words: &Words<'_>, pass: &mut Pass, weight: u64, id: u32) -> Step
+    requires here { IsOf words.now pass.old }
+    requires known { knows pass.old.view id }
+    ensures keeps { Keeps words.now pass.old pass.new }
+    ensures read { let g = words.now.problem in (t : State) → IsIdOf pass.old.view t id
+        → HasReadNext g pass.old.view pass.new.view t weight result }
+{
+    let found = interval(words, pass, id);
+    Step {
+        weight,
+        id: Some(id),
+        lower: found.lower,
+        upper: found.upper,
+    }
+}
+
 /// A choice that leads to a state, with what is read of that state.
 fn read_next(words: &Words<'_>, pass: &mut Pass, weight: u64, next: &State) -> Step
     requires here { IsOf words.now pass.old }
@@ -25,15 +44,7 @@ fn read_next(words: &Words<'_>, pass: &mut Pass, weight: u64, next: &State) -> S
     ensures read { HasReadNext words.now.problem pass.old.view pass.new.view next.now weight result }
 {
     match intern(words, pass, next) {
-        Interned::Id(id) => {
-            let found = interval(words, pass, id);
-            Step {
-                weight,
-                id: Some(id),
-                lower: found.lower,
-                upper: found.upper,
-            }
-        }
+        Interned::Id(id) => read_id(words, pass, weight, id),
         Interned::Full => Step {
             weight,
             id: None,

@@ -3,17 +3,24 @@
 ghost use Rattle.std.specs.Prelude.{◌≡◌, ◌<◌, Some, length, IfOk};
 ghost use Rattle.std.specs.List.{slice_get};
 ghost use Rattle.bound_core.specs.Core.{width};
+ghost use Rattle.brtdp_trial.specs.Meaning.{IsAnswerOf};
 ghost use Rattle.bellman_backup.specs.Scratches.{new_scratch};
 
 use crate::steps::Steps;
-use brtdp_trial::{GIVE_UP, Step};
+use brtdp_trial::{Backed, GIVE_UP, Step};
 use ground_model::{GroundProblem, List, State};
+use kept_transitions::Kept;
 use open_actions::{OpenActions, OpenCodes};
 use std::alloc::{AllocError, Global};
 use std::marker::Model;
+use word_table::Pass;
 
-/// Buffers of the problem's greatest sizes, so that a backup takes no memory, and the index of its actions.
-/// Contracts see the problem and what the last backup answered, with the choices as they were read.
+/// Buffers of the problem's greatest sizes, so that a backup takes no memory, the index of its actions, and the
+/// transitions that are kept of states that were backed up. Contracts see the problem, what the last backup
+/// answered, with the choices as they were read, and the witness.
+///
+/// What is kept rests on what was noted of the ids. The witness is a pass without rights that has noted it, so a
+/// pass that meets the witness has noted it too.
 #[derive(Drop)]
 pub struct Scratch<'p> {
     pub(crate) index: OpenActions<'p>,
@@ -24,22 +31,25 @@ pub struct Scratch<'p> {
     pub(crate) chosen: Steps,
     pub(crate) code: u16,
     pub(crate) den: u64,
+    pub(crate) kept: Kept,
+    pub(crate) witness: Option<Pass>,
 }
 
 impl<'p> Model for Scratch<'p> {
-    ghost use Rattle.std.specs.Prelude.{◌≡◌};
     ghost use Rattle.std.specs.Coded.{codes};
     ghost use Rattle.ground_model.specs.contracts.condition.GroundCondition as condition;
     ghost use Rattle.brtdp_trial.specs.Listed.{last_in};
     ghost use Rattle.bellman_backup.specs.Scratches.{ScratchView, AreBuffers};
+    ghost use Rattle.bellman_backup.specs.Kept.{IsKeeping};
 
     ghost Value = { ScratchView };
 
     ghost coded = { Prim.hlevel (codes, condition.the_row.coded) };
 
-    ghost view = { λ s. record { problem = s.index; last = last_in s.code s.den s.chosen } };
+    ghost view = { λ s. record { problem = s.index; last = last_in s.code s.den s.chosen; witness = s.witness } };
 
-    ghost invariant = { λ s. AreBuffers s.index s.open_codes s.state s.next };
+    ghost invariant = { λ s. AreBuffers s.index s.open_codes s.state s.next
+        × IsKeeping s.index s.witness s.kept };
 }
 
 /// A state of the problem's length.
@@ -52,8 +62,15 @@ fn blank_state(alloc: Global, problem: &GroundProblem) -> Result<State, AllocErr
 }
 
 impl<'p> Scratch<'p> {
-    /// A scratch for backups over words of the problem. It is refused for want of memory alone.
-    pub fn make(alloc: Global, problem: &'p GroundProblem) -> Result<Self, AllocError>
+    /// A scratch for backups over words of the problem. It may keep the transitions of so many ids, as far as there
+    /// is room for so many open actions and so many ids that follow. It is refused for want of memory alone.
+    pub fn make(
+        alloc: Global,
+        problem: &'p GroundProblem,
+        ids: u32,
+        actions: u32,
+        followers: u32,
+    ) -> Result<Self, AllocError>
         ensures { IfOk result (λ scratch. scratch ≡ new_scratch problem.now) }
     {
         Ok(Scratch {
@@ -65,7 +82,20 @@ impl<'p> Scratch<'p> {
             chosen: Steps::new(alloc)?,
             code: GIVE_UP,
             den: 1,
+            kept: Kept::make(alloc, ids, actions, followers)?,
+            witness: None,
         })
+    }
+
+    /// What the last backup answered.
+    pub(crate) fn backed(&self) -> Backed
+        ensures { IsAnswerOf self.now.last result }
+    {
+        Backed {
+            code: self.code,
+            den: self.den,
+            count: self.chosen.len(),
+        }
     }
 
     /// One choice of the action that the last backup answered, as that backup read it.

@@ -1,7 +1,7 @@
 -- A worker's part of a round.
 use Rattle.std.proofs.Common.{◌≡◌, ℕ, Option, Some, refl}
 use Rattle.word_table.specs.Seen.{Board, Knowledge}
-use Rattle.bellman_backup.specs.Scratches.{ScratchView}
+use Rattle.bellman_backup.specs.Scratches.{ScratchView, IsScratchOf}
 use Rattle.trial_workers.specs.declared.effort.Effort.{Effort}
 use Rattle.trial_workers.specs.declared.worker.Worker.{Worker}
 use Rattle.trial_workers.specs.Workers.{Stays, HasSwept, IsFit, HasTried, HasTakenPart}
@@ -18,10 +18,10 @@ fit_still : (b : Board) (depth : ℕ) (w : Worker) (x : Option ScratchView) → 
 fit_still b depth w x fit = record { here = fit.here; right = fit.right; room = fit.room; run = fit.run }
 
 pub part_is_taken : (b : Board) (e : Effort) (v w : Worker) (k : Knowledge) (x : Option ScratchView) (y : ScratchView) → Stays b v.pass k
-    → HasSwept b.problem v.first_id v.past_id v.pass.view k.view → HasTried b e (swept_with k x v) w → y.problem ≡ b.problem
+    → HasSwept b.problem v.first_id v.past_id v.pass.view k.view → HasTried b e (swept_with k x v) w → IsScratchOf b y
     → HasTakenPart b e v (with_scratch (Some y) w)
-part_is_taken b e v w k x y stays swept tried problem = record {
-  worker = record { fit = fit_still b e.depth w (Some y) tried.fit; scratch = y; has = refl; problem = problem };
+part_is_taken b e v w k x y stays swept tried of = record {
+  worker = record { fit = fit_still b e.depth w (Some y) tried.fit; scratch = y; has = refl; of = of };
   tried = record {
     fit = fit_still b e.depth w (Some y) tried.fit;
     stays = stays_again b v.pass k w.pass stays tried.stays;

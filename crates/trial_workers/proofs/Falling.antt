@@ -6,31 +6,31 @@ use Rattle.ground_model.specs.Ground.{Ground}
 use Rattle.word_view.specs.declared.view.View.{View}
 use Rattle.word_view.specs.Laws.{HasMore}
 use Rattle.word_table.specs.Seen.{Board, Knowledge, IsOf}
-use Rattle.bellman_backup.specs.Scratches.{ScratchView}
+use Rattle.bellman_backup.specs.Scratches.{ScratchView, IsScratchOf}
 use Rattle.bellman_backup.specs.Races.{has_all}
 use Rattle.bellman_backup.specs.Backups.{Keeps, Narrows}
 use Rattle.trial_workers.specs.Workers.{Stays, HasSwept}
 use Rattle.trial_workers.proofs.Passes.{stays_all, stays_again, keeps_stays, narrows_wider}
 
-pub record Sweeping (b : Board) (k l : Knowledge) (x y : ScratchView) (id past : ℕ) : Type 0 where
+pub record Sweeping (b : Board) (k l : Knowledge) (y : ScratchView) (id past : ℕ) : Type 0 where
   pub stays : Stays b k l
-  pub problem : y.problem ≡ x.problem
+  pub of : IsScratchOf b y
   pub within : id ≤ past
   pub swept : HasSwept b.problem id past k.view l.view
 
-pub sweep_begins : (b : Board) (k : Knowledge) (x : ScratchView) (past : ℕ) → IsOf b k → Sweeping b k k x x past past
-sweep_begins b k x past here = record {
+pub sweep_begins : (b : Board) (k : Knowledge) (x : ScratchView) (past : ℕ) → IsOf b k → IsScratchOf b x → Sweeping b k k x past past
+sweep_begins b k x past here of = record {
   stays = stays_all b k here;
-  problem = refl;
+  of = of;
   within = omega arith;
   swept = λ j from below. absurd (omega arith);
 }
 
-pub one_id_more : (b : Board) (k l m : Knowledge) (x y z : ScratchView) (id here past : ℕ) → here + 1 ≡ id → Sweeping b k l x y id past
-    → Keeps b l m → z.problem ≡ y.problem → Narrows b.problem l.view m.view here → Sweeping b k m x z here past
-one_id_more b k l m x y z id here past next so keeps same narrows = record {
+pub one_id_more : (b : Board) (k l m : Knowledge) (y z : ScratchView) (id here past : ℕ) → here + 1 ≡ id → Sweeping b k l y id past
+    → Keeps b l m → IsScratchOf b z → Narrows b.problem l.view m.view here → Sweeping b k m z here past
+one_id_more b k l m y z id here past next so keeps of narrows = record {
   stays = stays_again b k l m so.stays (keeps_stays b l m keeps);
-  problem = same ∙ so.problem;
+  of = of;
   within = (let w = so.within in omega arith);
   swept = λ j from below. dite (ℕ_discrete j here)
       (λ is. subst (Narrows b.problem k.view m.view) (sym is)

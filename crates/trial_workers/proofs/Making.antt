@@ -19,6 +19,9 @@ use Rattle.trial_workers.specs.Crews.{IsCrewOf, FirstHas, IsNewCrew, IsDesk, Are
 none_is_not_run : (r : Run) → None ≡ Some r → ⊥
 none_is_not_run r same = cc
 
+none_is_not_witness : (q : Knowledge) → None ≡ Some q → ⊥
+none_is_not_witness q same = cc
+
 pub new_is_worker : (b : Board) (k : Knowledge) (depth : ℕ) → IsOf b k → IsWorkerOf b depth (new_worker b.problem k depth)
 new_is_worker b k depth of = record {
   fit = record {
@@ -29,7 +32,7 @@ new_is_worker b k depth of = record {
   };
   scratch = new_scratch b.problem;
   has = refl;
-  problem = refl;
+  of = record { problem = refl; witness = λ q is. absurd (none_is_not_witness q is) };
 }
 
 more_with_right : (v : View) → HasMore v (with_rights 1 (without_rights v))

@@ -13,7 +13,7 @@ use Rattle.word_view.specs.Steps.{united, without_rights}
 use Rattle.word_view.proofs.Seen.{more_is_later}
 use Rattle.word_view.proofs.Noting.{noted_is_more, united_is_more}
 use Rattle.word_table.specs.Seen.{Board, Knowledge, knowledge, IsOf, with_rights}
-use Rattle.bellman_backup.specs.Scratches.{ScratchView}
+use Rattle.bellman_backup.specs.Scratches.{ScratchView, IsScratchOf}
 use Rattle.bellman_backup.specs.Races.{IsReady, Races, has_all, has_more_again}
 use Rattle.bellman_backup.specs.Backups.{Keeps, Narrows}
 use Rattle.start_means.specs.Means.{seen_value}
@@ -96,3 +96,7 @@ raced_stays b k x c l y d m z of board pass races =
       noted = races.noted;
       rights = races.rights;
     })
+
+pub raced_is_of : (b : Board) (c : Board) (l : Knowledge) (y : ScratchView) (d : Board) (m : Knowledge) (z : ScratchView)
+    → c ≡ b → Races c l y d m z → IsScratchOf d z → IsScratchOf b z
+raced_is_of b c l y d m z board races of = subst (λ x. IsScratchOf x z) (races.words ∙ board) of

@@ -94,14 +94,14 @@ fit_with_pass b depth o k is stays = record {
 }
 
 pub worker_with_pass : (b : Board) (depth : ℕ) (o : Worker) (k : Knowledge) → IsWorkerOf b depth o → Stays b o.pass k → IsWorkerOf b depth (with_pass k o)
-worker_with_pass b depth o k is stays = record { fit = fit_with_pass b depth o k is.fit stays; scratch = is.scratch; has = is.has; problem = is.problem }
+worker_with_pass b depth o k is stays = record { fit = fit_with_pass b depth o k is.fit stays; scratch = is.scratch; has = is.has; of = is.of }
 
 prepared_worker : (b : Board) (d : Division) (depth i : ℕ) (o : Worker) (k : Knowledge) → IsWorkerOf b depth (with_pass k o) → IsWorkerOf b depth (with_part d i (with_pass k o))
 prepared_worker b d depth i o k is = record {
   fit = record { here = is.fit.here; right = is.fit.right; room = is.fit.room; run = is.fit.run };
   scratch = is.scratch;
   has = is.has;
-  problem = is.problem;
+  of = is.of;
 }
 
 -- what worker 0 knows before the round

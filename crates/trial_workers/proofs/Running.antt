@@ -5,7 +5,7 @@ use Rattle.word_table.specs.Seen.{Board, Knowledge}
 use Rattle.brtdp_trial.specs.declared.run.Run.{Run}
 use Rattle.brtdp_trial.specs.Runs.{run_alone, goes_on, next_run}
 use Rattle.brtdp_trial.specs.Paths.{PathView}
-use Rattle.bellman_backup.specs.Scratches.{ScratchView}
+use Rattle.bellman_backup.specs.Scratches.{ScratchView, IsScratchOf}
 use Rattle.bellman_backup.specs.Races.{IsReady}
 use Rattle.trial_workers.specs.declared.effort.Effort.{Effort}
 use Rattle.trial_workers.specs.declared.worker.Worker.{Worker}
@@ -93,17 +93,17 @@ module _ (e : Effort) (first n : ℕ) (from : first ≤ n) where
 
 pub record Trying (b : Board) (e : Effort) (v w : Worker) (x : ScratchView) (n : ℕ) : Type 0 where
   pub can : CanTry b e.depth w
-  pub problem : x.problem ≡ b.problem
+  pub of : IsScratchOf b x
   pub stays : Stays b v.pass w.pass
   pub part : (w.first_trial ≡ v.first_trial) × (w.past_trial ≡ v.past_trial)
   pub from : v.first_trial ≤ n
   pub within : v.first_trial < v.past_trial → n ≤ v.past_trial
   pub trials : v.first_trial < n → ShowsTrials e v.first_trial n w
 
-pub tries_begin : (b : Board) (e : Effort) (v : Worker) (x : ScratchView) → CanTry b e.depth v → x.problem ≡ b.problem → Trying b e v v x v.first_trial
-tries_begin b e v x can problem = record {
+pub tries_begin : (b : Board) (e : Effort) (v : Worker) (x : ScratchView) → CanTry b e.depth v → IsScratchOf b x → Trying b e v v x v.first_trial
+tries_begin b e v x can of = record {
   can = can;
-  problem = problem;
+  of = of;
   stays = stays_all b v.pass can.fit.here;
   part = (refl, refl);
   from = omega arith;
@@ -118,16 +118,16 @@ tries_end b e v w x n so past = record {
   trials = λ some. let same : n ≡ v.past_trial = (let a = so.within some in omega arith) in subst (λ m. ShowsTrials e v.first_trial m w) same (so.trials (omega arith));
 }
 
-pub is_ready : (b : Board) (depth : ℕ) (w : Worker) (x : ScratchView) → CanTry b depth w → x.problem ≡ b.problem → IsReady b w.pass x
-is_ready b depth w x can problem = record { here = can.fit.here; right = can.fit.right; problem = problem; starts = can.starts }
+pub is_ready : (b : Board) (depth : ℕ) (w : Worker) (x : ScratchView) → CanTry b depth w → IsScratchOf b x → IsReady b w.pass x
+is_ready b depth w x can of = record { here = can.fit.here; right = can.fit.right; scratch = of; starts = can.starts }
 
 abbrev with_trial : Worker → Knowledge → PathView → Worker
 with_trial w k p = record w { pass = k; path = p }
 
 pub one_trial_more : (b : Board) (e : Effort) (v w : Worker) (x : ScratchView) (k : Knowledge) (y : ScratchView) (p : PathView) (n : ℕ) → Trying b e v w x n → n < v.past_trial
-    → Stays b w.pass k → y.problem ≡ b.problem → p.room ≡ w.path.room → p.run ≡ Some (next_run w.path.run n e.seed e.tau) → HasTurnsKnown k.view p
+    → Stays b w.pass k → IsScratchOf b y → p.room ≡ w.path.room → p.run ≡ Some (next_run w.path.run n e.seed e.tau) → HasTurnsKnown k.view p
     → Trying b e v (with_trial w k p) y (n + 1)
-one_trial_more b e v w x k y p n so below stays problem room run known =
+one_trial_more b e v w x k y p n so below stays of room run known =
     let old = so.can.fit in
     let rises : IsRun (next_run w.path.run n e.seed e.tau) = next_is_run w.path.run n e.seed e.tau old.run in
     let so_far : SoFar e v.first_trial n w.path.run = λ later. let t = so.trials later in (t.run, t.shown, t.is) in record {
@@ -140,7 +140,7 @@ one_trial_more b e v w x k y p n so below stays problem room run known =
         };
         starts = λ id inside. stays.noted.known id (so.can.starts id inside);
       };
-      problem = problem;
+      of = of;
       stays = stays_again b v.pass w.pass k so.stays stays;
       part = so.part;
       from = (let f = so.from in omega arith);

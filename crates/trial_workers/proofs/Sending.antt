@@ -13,6 +13,7 @@ use Rattle.ground_model.proofs.start.Start.TheSendSync as start_crosses
 use Rattle.open_actions.proofs.entry_runs.EntryRuns.TheSendSync as runs_cross
 use Rattle.open_actions.proofs.open_codes.OpenCodes.TheSendSync as codes_cross
 use Rattle.open_actions.proofs.word_test.WordTest.TheSendSync as test_crosses
+use Rattle.kept_transitions.proofs.kept.Kept.TheSendSync as kept_crosses
 use Rattle.bellman_backup.proofs.steps.Steps.TheSendSync as steps_cross
 use Rattle.brtdp_trial.proofs.path.Path.TheSendSync as path_crosses
 use Rattle.word_layout.proofs.layout.Layout.TheSendSync as layout_crosses
@@ -62,7 +63,7 @@ pub index_send : (ℓ : _) → IsSend (index.the_row ℓ)
 index_send ℓ = search (sendable, crosses, list_crosses.the_send, runs_cross.the_send, masked_send, problem_sync) depth 30
 
 pub scratch_send : (ℓ : _) → IsSend (scratch.the_row ℓ)
-scratch_send ℓ = search (sendable, crosses, index_send, codes_cross.the_send, state_crosses.the_send, steps_cross.the_send) depth 30
+scratch_send ℓ = search (sendable, crosses, index_send, codes_cross.the_send, state_crosses.the_send, steps_cross.the_send, kept_crosses.the_send, pass_crosses.the_send) depth 40
 
 pub worker_send : (ℓ : _) → IsSend (worker.the_row ℓ)
 worker_send ℓ = search (sendable, pass_crosses.the_send, path_crosses.the_send, scratch_send) depth 30

@@ -22,7 +22,7 @@ use Rattle.word_table.specs.Seen.{Board, Knowledge, IsOf}
 use Rattle.brtdp_trial.specs.declared.run.Run.{Run}
 use Rattle.brtdp_trial.specs.declared.turn.Turn.{Turn}
 use Rattle.brtdp_trial.specs.Paths.{PathView}
-use Rattle.bellman_backup.specs.Scratches.{ScratchView}
+use Rattle.bellman_backup.specs.Scratches.{ScratchView, IsScratchOf}
 use Rattle.bellman_backup.specs.Backups.{Narrows}
 use Rattle.trial_workers.specs.declared.effort.Effort.{Effort}
 use Rattle.trial_workers.specs.declared.worker.Worker.{Worker}
@@ -55,7 +55,7 @@ pub record IsWorkerOf (b : Board) (depth : ℕ) (w : Worker) : Type 0 where
   pub fit : IsFit b depth w
   pub scratch : ScratchView
   pub has : w.scratch ≡ Some scratch
-  pub problem : scratch.problem ≡ b.problem
+  pub of : IsScratchOf b scratch
 
 pub record IsRunOf (e : Effort) (first past : ℕ) (r : Run) : Type 0 where
   pub first_within : r.first ≤ first

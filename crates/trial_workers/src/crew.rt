@@ -41,19 +41,37 @@ impl<'p> Model for Crew<'p> {
     ghost invariant = { λ c. (0 < length c.workers.items) × (length c.workers.items ≤ 16) };
 }
 
-/// What the workers of a crew need beside their passes.
+/// For how many open actions, and for how many ids that follow, a worker's scratch has room at least.
+const LEAST_ROOM: u32 = 1 << 18;
+
+/// For how many open actions of each id of its share it has room.
+const ACTIONS_OF_AN_ID: u32 = 32;
+
+/// For how many ids that follow each id of its share it has room.
+const FOLLOWERS_OF_AN_ID: u32 = 64;
+
+/// What the workers of a crew need beside their passes. Each may keep the transitions of any of so many ids, and has
+/// room for those of its share.
 fn make_desks<'p>(
     alloc: Global,
     problem: &'p GroundProblem,
+    ids: u32,
     workers: u32,
     depth: u32,
 ) -> Result<Vec<Desk<'p>>, AllocError>
     ensures { IfOk result (λ desks. AreDesks problem.now depth workers desks.items) }
 {
+    let share = ids / workers.max(1);
+    let actions = share
+        .saturating_mul(ACTIONS_OF_AN_ID)
+        .saturating_add(LEAST_ROOM);
+    let followers = share
+        .saturating_mul(FOLLOWERS_OF_AN_ID)
+        .saturating_add(LEAST_ROOM);
     let mut desks = Vec::with_capacity(alloc, workers as usize)?;
     for _ in 0..workers {
         desks.push(Desk {
-            scratch: Scratch::make(alloc, problem)?,
+            scratch: Scratch::make(alloc, problem, ids, actions, followers)?,
             path: Path::make(alloc, depth)?,
         })?;
     }
@@ -84,7 +102,7 @@ impl<'p> Crew<'p> {
         let Ok(mut seats) = Vec::with_capacity(alloc, workers as usize) else {
             return Err((AllocError, pass));
         };
-        let Ok(mut desks) = make_desks(alloc, words.problem(), workers, depth) else {
+        let Ok(mut desks) = make_desks(alloc, words.problem(), words.ids(), workers, depth) else {
             return Err((AllocError, pass));
         };
         let mut pass = pass;

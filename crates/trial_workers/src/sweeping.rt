@@ -1,8 +1,9 @@
 //! A worker's backups of its ids.
 
-ghost use Rattle.std.specs.Prelude.{◌≡◌, ◌<◌, ℕ};
+ghost use Rattle.std.specs.Prelude.{◌<◌, ℕ};
 ghost use Rattle.word_view.specs.Views.{knows};
 ghost use Rattle.word_table.specs.Seen.{IsOf};
+ghost use Rattle.bellman_backup.specs.Scratches.{IsScratchOf};
 ghost use Rattle.trial_workers.specs.Workers.{Stays, HasSwept};
 
 use bellman_backup::{Scratch, backup};
@@ -18,10 +19,10 @@ pub(crate) fn sweep(
 )
     requires here { IsOf words.now pass.old }
     requires right { 0 < pass.old.view.rights }
-    requires problem { scratch.old.problem ≡ words.now.problem }
+    requires scratch { IsScratchOf words.now scratch.old }
     requires known { (id : ℕ) → id < past → knows pass.old.view id }
     ensures stays { Stays words.now pass.old pass.new }
-    ensures problem { scratch.new.problem ≡ scratch.old.problem }
+    ensures scratch { IsScratchOf words.now scratch.new }
     ensures swept { HasSwept words.now.problem first past pass.old.view pass.new.view }
 {
     let mut id = past;

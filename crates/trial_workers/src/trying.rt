@@ -2,6 +2,7 @@
 
 ghost use Rattle.std.specs.Prelude.{◌≡◌, ◌≤◌, Some};
 ghost use Rattle.brtdp_trial.specs.Runs.{next_run};
+ghost use Rattle.bellman_backup.specs.Scratches.{IsScratchOf};
 ghost use Rattle.bellman_backup.specs.Races.{IsReady};
 ghost use Rattle.trial_workers.specs.Workers.{Stays, HasTurnsKnown, CanTry, HasTried};
 
@@ -26,7 +27,7 @@ fn race<'p>(
     requires room { path.old.room ≡ effort.now.depth }
     requires deep { 1 ≤ effort.now.depth }
     ensures stays { Stays words.now pass.old pass.new }
-    ensures problem { result.problem ≡ words.now.problem }
+    ensures scratch { IsScratchOf words.now result }
     ensures room { path.new.room ≡ path.old.room }
     ensures run { let e = effort.now
         in path.new.run ≡ Some (next_run path.old.run number e.seed e.tau) }
@@ -62,10 +63,10 @@ pub(crate) fn try_all<'p, G: Gate>(
     gate: &G,
 ) -> Scratch<'p>
     requires can { CanTry words.now effort.now.depth worker.old }
-    requires problem { scratch.problem ≡ words.now.problem }
+    requires scratch { IsScratchOf words.now scratch }
     requires deep { 1 ≤ effort.now.depth }
     ensures tried { HasTried words.now effort.now worker.old worker.new }
-    ensures problem { result.problem ≡ words.now.problem }
+    ensures scratch { IsScratchOf words.now result }
 {
     let mut scratch = scratch;
     for number in worker.first_trial..worker.past_trial {

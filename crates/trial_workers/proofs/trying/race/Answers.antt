@@ -1,5 +1,5 @@
 use Rattle.std.proofs.Common.{◌∙◌}
-use Rattle.trial_workers.proofs.Passes.{same_rights, own_is_ready, raced_stays}
+use Rattle.trial_workers.proofs.Passes.{same_rights, own_is_ready, raced_stays, raced_is_of}
 use Rattle.trial_workers.proofs.trying.race.Goals as goal
 
 pub new-bounds-requires : goal.new-bounds-requires
@@ -12,3 +12,8 @@ returns-clause-stays c =
     raced_stays b c.args.pass.now c.args.scratch c.new-bounds.result.words.now c.new-bounds.result.pass c.new-bounds.result.scratch
     c.trial.new.bounds.words.now c.trial.new.bounds.pass c.trial.new.bounds.scratch c.requires.ready.here
     c.new-bounds.ensures.words (c.new-bounds.ensures.pass ∙ own) c.trial.ensures.later
+
+pub returns-clause-scratch : goal.returns-clause-scratch
+returns-clause-scratch c =
+    raced_is_of c.args.words.now c.new-bounds.result.words.now c.new-bounds.result.pass c.new-bounds.result.scratch
+    c.trial.new.bounds.words.now c.trial.new.bounds.pass c.trial.new.bounds.scratch c.new-bounds.ensures.words c.trial.ensures.later c.trial.new.bounds.ready.scratch

@@ -4,5 +4,5 @@ use Rattle.bellman_backup.proofs.racing.RacingBounds.backup.Goals as goal
 pub invariant_of-self : goal.invariant_of-self
 invariant_of-self c =
     let self = c.args.self.now in record {
-      ready = races_still self.words.now self.pass c.backup.new.pass self.scratch c.backup.new.scratch self.ready c.backup.ensures.keeps c.backup.ensures.problem;
+      ready = races_still self.words.now self.pass c.backup.new.pass self.scratch c.backup.new.scratch self.ready c.backup.ensures.keeps c.backup.ensures.scratch;
     }

@@ -1,0 +1,10 @@
+//! The transitions of states, kept as arrays of numbers in memory that is taken once.
+#![tactic(auto)]
+
+mod kept;
+mod kept_action;
+mod kept_row;
+
+pub use kept::Kept;
+pub use kept_action::KeptAction;
+pub use kept_row::KeptRow;
