@@ -1,3 +1,5 @@
 pub mod Opened
+pub mod Rounds
 pub mod Ended
 pub mod Solved
+pub mod Laws

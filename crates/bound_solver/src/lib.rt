@@ -4,6 +4,7 @@
 
 mod closing;
 mod finishing;
+mod laws;
 mod opening;
 mod sizes;
 mod solving;
@@ -11,7 +12,8 @@ mod solving;
 pub use bound_core::{Image, ImageRow};
 pub use closing::Closing;
 pub use finishing::finish;
-pub use opening::{Opening, open};
+pub use laws::search_laws;
+pub use opening::{Opening, make_crew, open};
 pub use sizes::{MOST_STATES, Sizes};
 pub use solving::solve;
 pub use trial_workers::Effort;

@@ -1,46 +1,18 @@
 //! A whole search.
 
-ghost use Rattle.std.specs.Prelude.{◌≡◌, ◌≤◌, None, IfOk, List};
-ghost use Rattle.ground_model.specs.Packed.{State};
-ghost use Rattle.word_table.specs.Seen.{IsOf};
-ghost use Rattle.trial_workers.specs.Workers.{HasListed};
-ghost use Rattle.trial_workers.specs.Crews.{IsCrewOf, FirstHas};
-ghost use Rattle.trial_workers.specs.declared.crew.TheConstants.{MOST_WORKERS};
+ghost use Rattle.std.specs.Prelude.{◌≤◌, IfOk};
 ghost use Rattle.bound_solver.specs.Opened.{AreSizes};
 ghost use Rattle.bound_solver.specs.Solved.{IsSolved};
 
 use crate::closing::Closing;
 use crate::finishing::finish;
-use crate::opening::{Opening, open};
+use crate::opening::{Opening, make_crew, open};
 use crate::sizes::Sizes;
 use ground_model::GroundProblem;
 use shelf_io::Gate;
 use std::alloc::{AllocError, Global};
 use std::thread::Threads;
-use trial_workers::{Crew, Effort, solve_words};
-use word_table::{Pass, Words};
-
-/// A crew that has the pass.
-fn crew<'p>(
-    alloc: Global,
-    words: &Words<'p>,
-    pass: Pass,
-    workers: u32,
-    depth: u32,
-) -> Result<Crew<'p>, AllocError>
-    requires here { IsOf words.now pass }
-    requires free { pass.view.spare ≡ None }
-    requires rights { pass.view.rights ≡ workers }
-    requires workers { (1 ≤ workers) × (workers ≤ MOST_WORKERS) }
-    ensures crew { IfOk result (IsCrewOf words.now depth) }
-    ensures has { (states : List State) → HasListed states pass.view
-        → IfOk result (FirstHas states) }
-{
-    let Ok(crew) = Crew::make(alloc, words, pass, workers, depth) else {
-        return Err(AllocError);
-    };
-    Ok(crew)
-}
+use trial_workers::{Effort, solve_words};
 
 /// Solves a problem: lists the states near its starts, makes rounds of sweeps over these states and of trials until the
 /// means of the starts' bounds differ by at most the gap or the most rounds are made, and hands out all states that were
@@ -64,7 +36,7 @@ pub fn solve<R: Threads + Sync, G: Gate>(
         pass,
         explored,
     } = open(alloc, problem, sizes)?;
-    let mut crew = crew(alloc, &words, pass, sizes.workers, effort.depth)?;
+    let mut crew = make_crew(alloc, &words, pass, sizes.workers, effort.depth)?;
     let solved = solve_words(rt, &words, &mut crew, &explored, effort, gate);
     let image = finish(alloc, words, crew.dismiss())?;
     Ok(Closing {

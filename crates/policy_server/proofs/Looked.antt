@@ -1,5 +1,5 @@
 -- What a look-up of a state tells.
-use Rattle.std.proofs.Common.{◌≡◌, ℕ, ◌≤◌, Bool, true, cond, nat_eq, List, [], ◌∷◌, ◌++◌, inl, inr, refl, sym, ap, ◌∙◌, subst, arith}
+use Rattle.std.proofs.Common.{◌<◌, ◌≡◌, ℕ, ◌≤◌, Bool, true, cond, nat_eq, List, [], ◌∷◌, ◌++◌, inl, inr, refl, sym, ap, ◌∙◌, subst, arith}
 use Rattle.std.specs.Prelude.{IsTrue}
 use Rattle.std.proofs.lemmas.Bool.{cases_Bool, eq-eqb}
 use Rattle.std.proofs.lemmas.List.{append_assoc}
@@ -134,7 +134,7 @@ count_adds v n = elim (cases_Bool (nat_eq n v.layout.ids)) [
 
 -- the pass u has found the id; then it looks at the count and reads the interval
 module _ (b : Board) (k u : Knowledge) (s : State) (id n : ℕ) (i : Interval) (goes : GoesOn b k u) (is_id : IsIdOf u.view s id)
-    (one : HasOneEach u.view) (told : TellsInterval b.problem (with_count u.view n) id i) where
+    (small : i.code < 65536) (one : HasOneEach u.view) (told : TellsInterval b.problem (with_count u.view n) id i) where
   abbrev counted : View
   counted = with_count u.view n
 
@@ -170,6 +170,7 @@ module _ (b : Board) (k u : Knowledge) (s : State) (id n : ℕ) (i : Interval) (
   is_found : IsFound b.problem k.view s id i after
   is_found = record {
     is_id = id_later u.view after s id read_more is_id;
+    is_code = small;
     lower_since = (let a = since.lower s in let c = lower_seen in omega arith);
     upper_since = (let a = since.upper s in let c = upper_seen in omega arith);
     lower_until = raised_is_seen after (number id i.lower) s (is_first (number id i.lower) u.view.lower) has;
@@ -193,9 +194,9 @@ module _ (b : Board) (k u : Knowledge) (s : State) (id n : ℕ) (i : Interval) (
   }
 
 pub found_serves : (b : Board) (k u v w : Knowledge) (s : State) (id n : ℕ) (i : Interval) → GoesOn b k u → u.view.spare ≡ k.view.spare → IsIdOf u.view s id
-    → HasOneEach u.view → v ≡ knowledge u.table (with_count u.view n) → w ≡ knowledge v.table (with_interval v.view id i) → TellsInterval b.problem v.view id i
+    → i.code < 65536 → HasOneEach u.view → v ≡ knowledge u.table (with_count u.view n) → w ≡ knowledge v.table (with_interval v.view id i) → TellsInterval b.problem v.view id i
     → Serves b k w (Found s id i ∷ [])
-found_serves b k u v w s id n i goes spare is_id one count read told =
+found_serves b k u v w s id n i goes spare is_id small one count read told =
     subst (λ (x : Knowledge). Serves b k x (Found s id i ∷ []))
     (sym (read ∙ ap (λ (x : Knowledge). knowledge x.table (with_interval x.view id i)) count))
-    (found_there b k u s id n i goes is_id one (subst (λ (x : Knowledge). TellsInterval b.problem x.view id i) count told) spare)
+    (found_there b k u s id n i goes is_id small one (subst (λ (x : Knowledge). TellsInterval b.problem x.view id i) count told) spare)

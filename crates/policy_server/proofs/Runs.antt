@@ -32,7 +32,7 @@ all_last : {X : Type 0} (P : X → Type 0) (xs : List X) (y : X) → AllByRecurs
 all_last P [] y all one = (one, tt)
 all_last P (x ∷ xs) y all one = (all.0, all_last P xs y all.1 one)
 
-all_weaker : {X : Type 0} (P Q : X → Type 0) → ((x : X) → P x → Q x) → (xs : List X) → AllByRecursion P xs → AllByRecursion Q xs
+pub all_weaker : {X : Type 0} (P Q : X → Type 0) → ((x : X) → P x → Q x) → (xs : List X) → AllByRecursion P xs → AllByRecursion Q xs
 all_weaker P Q f [] all = tt
 all_weaker P Q f (x ∷ xs) all = (f x all.0, all_weaker P Q f xs all.1)
 
@@ -121,6 +121,7 @@ told_until g u v w (Unvisited s) more looks told = record {
 }
 told_until g u v w (Found s id i) more looks told = let later = more_is_later v w more in record {
   is_id = id_later v w s id more told.is_id;
+  is_code = told.is_code;
   lower_since = told.lower_since;
   upper_since = told.upper_since;
   lower_until = (let a = later.lower s in let b = told.lower_until in omega arith);
@@ -142,6 +143,7 @@ told_since g u v w (Unvisited s) more looks told = record {
 }
 told_since g u v w (Found s id i) more looks told = let later = more_is_later u v more in record {
   is_id = told.is_id;
+  is_code = told.is_code;
   lower_since = (let a = later.lower s in let b = told.lower_since in omega arith);
   upper_since = (let a = later.upper s in let b = told.upper_since in omega arith);
   lower_until = told.lower_until;
@@ -238,16 +240,18 @@ module _ (b : Board) (k l : Knowledge) (i j : Input) (old new : Option (List ℕ
       → EndsBy served.end rest ended (length rs) → IsRun b k l i j old new served
   run_is are whole took fit serves puts end =
       let cut : cut_of (feds lines ++ rest) ≡ cut_with lines rest = cut_lines lines rest are whole in record {
-        bytes = feds lines ++ rest;
-        ended = ended;
         replies = rs;
-        took = took;
-        short = subst (λ (c : Cut). AllByRecursion (λ line. length line ≤ MOST_LINE) c.lines) (sym cut)
-            (all_weaker IsLine (λ line. length line ≤ MOST_LINE) (λ line is. is.short) lines are);
-        fit = subst (λ (c : Cut). FitEach b.problem (c.lines ++ last_line ended c.rest) rs) (sym cut) fit;
+        answered = record {
+          bytes = feds lines ++ rest;
+          ended = ended;
+          took = took;
+          short = subst (λ (c : Cut). AllByRecursion (λ line. length line ≤ MOST_LINE) c.lines) (sym cut)
+              (all_weaker IsLine (λ line. length line ≤ MOST_LINE) (λ line is. is.short) lines are);
+          fit = subst (λ (c : Cut). FitEach b.problem (c.lines ++ last_line ended c.rest) rs) (sym cut) fit;
+          puts = subst (λ (c : Cut). Puts b.problem old new c.rest rs served) (sym cut) puts;
+          end = subst (λ (c : Cut). EndsBy served.end c.rest ended (length rs)) (sym cut) end;
+        };
         serves = serves;
-        puts = subst (λ (c : Cut). Puts b.problem old new c.rest rs served) (sym cut) puts;
-        end = subst (λ (c : Cut). EndsBy served.end c.rest ended (length rs)) (sym cut) end;
       }
 
 short_text : (rest : List ℕ) → length rest ≤ MOST_LINE → long_text rest ≡ []

@@ -9,11 +9,12 @@
 --     loads_of rs                the loads of numbers that replies tell of, the last first
 --     IsUnvisited v s w          since v a bucket of the run of s was found empty behind buckets of other states, and v had no id with s
 --     IsFound g v s id i w       the interval, found since v under the id, which w has with s: no wider than what v had seen of s, and no
---                                narrower than what w has; it covers the least cost, and its act is worth its upper value
+--                                narrower than what w has; it covers the least cost, and its act, a code of 16 bits, is worth its upper
+--                                value
 --     IsTold g v w r             what a reply tells
 --     Follows r r'               a later reply of one state is no wider, and never that the state was not found
 --     Serves b k l rs            what a pass has noted since k are these replies and looks
-use Rattle.std.specs.Prelude.{◌≡◌, ◌≢◌, ℕ, ◌≤◌, cond, nat_eq, List, [], ◌∷◌, ◌++◌, codes, Some, None, IsTrue}
+use Rattle.std.specs.Prelude.{◌≡◌, ◌≢◌, ℕ, ◌<◌, ◌≤◌, cond, nat_eq, List, [], ◌∷◌, ◌++◌, codes, Some, None, IsTrue}
 use Rattle.std.specs.List.{slice_get, AllByRecursion}
 use Rattle.decision_process.specs.Least.{Covers}
 use Rattle.ground_model.specs.Packed.{State}
@@ -101,6 +102,7 @@ pub record IsUnvisited (v : View) (s : State) (w : View) : Type 0 where
 
 pub record IsFound (g : Ground) (v : View) (s : State) (id : ℕ) (i : Interval) (w : View) : Type 0 where
   pub is_id : IsIdOf w s id
+  pub is_code : i.code < 65536
   pub lower_since : seen_lower v s ≤ i.lower
   pub upper_since : word_in i ≤ seen_upper v s
   pub lower_until : i.lower ≤ seen_lower w s

@@ -7,8 +7,10 @@
 --     IsCutShort t t' front last
 --                               a sink took the front, and then a part of the last line
 --     Puts ..                   what a sink took
+--     HasAnswered g i j t t' served replies
+--                               the bytes of a run: the queries that were taken, and the replies that were put
 --     IsRun b k l i j t t' served
---                               a run
+--                               a run: these bytes, by replies that tell what the pass found
 use Rattle.std.specs.Prelude.{◌≡◌, ◌⊎◌, ℕ, ◌+◌, ◌<◌, ◌≤◌, Bool, true, false, cond, nat_lt}
 use Rattle.std.specs.Prelude.{List, [], ◌++◌, length, take, codes, Option}
 use Rattle.std.specs.List.{AllByRecursion}
@@ -101,14 +103,19 @@ Puts g old new rest rs served = elim (is_write_fault served.end) [
   | false ↦ Appends old new (due g rest rs) × (served.queries ≡ length rs)
 ]
 
-pub record IsRun (b : Board) (k l : Knowledge) (i j : Input) (old new : Option (List ℕ)) (served : Served) :
+-- The bytes that were taken complete certain queries, and the sink took the lines of one reply for each, in order.
+pub record HasAnswered (g : Ground) (i j : Input) (old new : Option (List ℕ)) (served : Served) (replies : List Reply) :
     Type 0 where
   pub bytes : List ℕ
   pub ended : Bool
-  pub replies : List Reply
   pub took : Took i j bytes ended (is_read_fault served.end)
   pub short : AllByRecursion (λ line. length line ≤ MOST_LINE) (cut_of bytes).lines
-  pub fit : FitEach b.problem (queries_of bytes ended) replies
-  pub serves : Serves b k l replies
-  pub puts : Puts b.problem old new (cut_of bytes).rest replies served
+  pub fit : FitEach g (queries_of bytes ended) replies
+  pub puts : Puts g old new (cut_of bytes).rest replies served
   pub end : EndsBy served.end (cut_of bytes).rest ended (length replies)
+
+pub record IsRun (b : Board) (k l : Knowledge) (i j : Input) (old new : Option (List ℕ)) (served : Served) :
+    Type 0 where
+  pub replies : List Reply
+  pub answered : HasAnswered b.problem i j old new served replies
+  pub serves : Serves b k l replies

@@ -1,0 +1,39 @@
+-- The laws of searches, as statements.
+--     FirstHasSolved             behind the rounds of a crew that had the listed states, worker 0's pass has what they leave
+--     LaterHasSolved             and so has a pass that has noted more
+--     ClosingIsSolved            what such a pass closes the table with answers the search
+use Rattle.std.specs.Prelude.{List}
+use Rattle.ground_model.specs.Ground.{Ground}
+use Rattle.bound_core.specs.declared.image.Image.{Image}
+use Rattle.word_view.specs.Laws.{HasMore}
+use Rattle.word_table.specs.Seen.{Board, Knowledge, IsOf}
+use Rattle.state_explorer.specs.declared.explored.Explored.{Explored}
+use Rattle.trial_workers.specs.declared.effort.Effort.{Effort}
+use Rattle.trial_workers.specs.declared.effort.Solved.{Solved}
+use Rattle.trial_workers.specs.declared.worker.Worker.{Worker}
+use Rattle.trial_workers.specs.Crews.{FirstHas, IsFirstPass}
+use Rattle.bound_solver.specs.declared.closing.Closing.{Closing}
+use Rattle.bound_solver.specs.declared.opening.Opening.{Opening}
+use Rattle.bound_solver.specs.declared.sizes.Sizes.{Sizes}
+use Rattle.bound_solver.specs.Opened.{IsOpened}
+use Rattle.bound_solver.specs.Rounds.{HasMadeRounds, HasSolved}
+use Rattle.bound_solver.specs.Ended.{IsEnded}
+use Rattle.bound_solver.specs.Solved.{IsSolved}
+
+abbrev pub FirstHasSolved : Type 0
+FirstHasSolved = (b : Board) (effort : Effort) (explored : Explored) (os ns : List Worker) (solved : Solved) (k : Knowledge)
+    → FirstHas explored.states os → HasMadeRounds b effort explored os ns solved → IsFirstPass ns k
+    → HasSolved b effort explored solved k
+
+abbrev pub LaterHasSolved : Type 0
+LaterHasSolved = (b : Board) (effort : Effort) (explored : Explored) (solved : Solved) (k l : Knowledge)
+    → HasSolved b effort explored solved k → IsOf b l → HasMore k.view l.view
+    → HasSolved b effort explored solved l
+
+abbrev pub closing_of : Image → Solved → Closing
+closing_of image solved = record { image = image; rounds = solved.rounds }
+
+abbrev pub ClosingIsSolved : Type 0
+ClosingIsSolved = (g : Ground) (sizes : Sizes) (effort : Effort) (o : Opening) (solved : Solved) (k : Knowledge) (image : Image)
+    → IsOpened g sizes o → HasSolved o.words effort o.explored solved k → IsEnded o.words k.view image
+    → IsSolved g sizes effort (closing_of image solved)
