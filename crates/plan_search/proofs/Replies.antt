@@ -8,7 +8,9 @@ use Rattle.certificate.specs.Content.{Content, IsCertificate, text_of, most_byte
 use Rattle.certificate.specs.Answers.{Writes}
 use Rattle.certificate.specs.declared.refusal.WriteRefusal.TheVariants as unwritten
 use Rattle.certificate_check.specs.Claims.{ground_certificate}
+use Rattle.bound_solver.specs.declared.closing.Closing.{Closing}
 use Rattle.closing_bounds.specs.Closing.{closing_rows}
+use Rattle.closing_certificate.specs.Certificates.{IsCertificateOf}
 use Rattle.plan_request.specs.declared.effort.Effort.{Effort}
 use Rattle.plan_request.specs.declared.sizes.Sizes.{Sizes}
 use Rattle.plan_report.specs.declared.ending.Ending.TheVariants.{Converged}
@@ -21,7 +23,7 @@ use Rattle.plan_search.specs.declared.measured.Measured.{Measured}
 use Rattle.plan_search.specs.declared.found.Found.{Found}
 use Rattle.plan_search.specs.Found.{IsFound}
 use Rattle.plan_search.specs.Answers.{IsReport, IsAnswerOf, IsMeasuredOf, IsTooLong}
-use Rattle.plan_search.specs.Solving.{told_of, IsFoundBy, IsUnwritten}
+use Rattle.plan_search.specs.Solving.{told_of, IsFoundBy, IsAnswerLeft, IsUnwritten}
 use Rattle.plan_search.proofs.Findings.{found_is}
 
 module _ (c : Content) (version : c.version ≡ 2) where
@@ -51,7 +53,7 @@ module _ (g : Ground) (effort : Effort) (sizes : Sizes) (f : Found) (by : IsFoun
       reported : IsReport g f.certificate (told_of g effort sizes f.closing) report converged
       reported = record { text = text; converged_is = (λ on. found.converged.1 (within.0 on), λ e. within.1 (found.converged.0 e)) }
 
-      pub answered : (certificate : List ℕ) → certificate ≡ text_of f.certificate → length certificate ≤ most_bytes 2
+      answered : (certificate : List ℕ) → certificate ≡ text_of f.certificate → length certificate ≤ most_bytes 2
           → IsAnswerOf g effort sizes (record { certificate = certificate; report = report; converged = converged })
       answered certificate is_text short = record {
         content = f.certificate;
@@ -60,6 +62,16 @@ module _ (g : Ground) (effort : Effort) (sizes : Sizes) (f : Found) (by : IsFoun
         text = is_text;
         short = short;
         report = reported;
+      }
+
+      -- what a solver left is behind the answer
+      pub answered_by : (left : Closing) → f.closing ≡ left → (certificate : List ℕ) → certificate ≡ text_of f.certificate
+          → length certificate ≤ most_bytes 2
+          → IsAnswerLeft g effort sizes left (record { certificate = certificate; report = report; converged = converged })
+      unfolding answered
+      answered_by left is_left certificate is_text short = record {
+        is_answer = answered certificate is_text short;
+        certified = subst (λ (l : Closing). IsCertificateOf g l.image.rows f.certificate) is_left by.certified;
       }
 
       pub measured : IsMeasuredOf g effort sizes (record { report = report; converged = converged })

@@ -4,6 +4,8 @@
 --     all_ids sizes                  how many ids the table has
 --     told_of g effort sizes left    what is told of a search that left this
 --     IsFoundBy g effort sizes f     a solver left this, with its certificate
+--     IsAnswerLeft g effort sizes left a
+--                                    what is answered of this, whose certificate it has
 --     IsUnwritten c stop             why a certificate of version 2 has no text
 use Rattle.std.specs.Prelude.{◌≡◌, ◌⊎◌, ℕ, ◌+◌, ◌<◌, length}
 use Rattle.ground_model.specs.Ground.{Ground}
@@ -18,7 +20,9 @@ use Rattle.plan_request.specs.declared.sizes.Sizes.{Sizes}
 use Rattle.plan_report.specs.Solved.{Solved, solved_of}
 use Rattle.plan_stop.specs.declared.stop.Stop.{Stop}
 use Rattle.plan_stop.specs.declared.stop.Stop.TheVariants.{NoMemory, Limit}
+use Rattle.plan_search.specs.declared.answer.Answer.{Answer}
 use Rattle.plan_search.specs.declared.found.Found.{Found}
+use Rattle.plan_search.specs.Answers.{IsAnswerOf}
 
 abbrev pub solver_effort : Effort → workers.Effort
 solver_effort e = record {
@@ -43,6 +47,10 @@ told_of g effort sizes left =
 pub record IsFoundBy (g : Ground) (effort : Effort) (sizes : Sizes) (f : Found) : Type 0 where
   pub solved : IsSolved g (solver_sizes sizes) (solver_effort effort) f.closing
   pub certified : IsCertificateOf g f.closing.image.rows f.certificate
+
+pub record IsAnswerLeft (g : Ground) (effort : Effort) (sizes : Sizes) (left : Closing) (a : Answer) : Type 0 where
+  pub is_answer : IsAnswerOf g effort sizes a
+  pub certified : IsCertificateOf g left.image.rows is_answer.content
 
 -- want of memory, or the limit on the bytes of a certificate
 abbrev pub IsUnwritten : Content → Stop → Type 0

@@ -5,8 +5,8 @@ ghost use Rattle.closing_certificate.specs.Certificates.{HasNameLists};
 ghost use Rattle.bound_solver.specs.Solved.{IsSolved};
 ghost use Rattle.plan_request.specs.Laws.{AreSizes};
 ghost use Rattle.plan_stop.specs.declared.stop.Stop.TheVariants.{NoMemory};
-ghost use Rattle.plan_search.specs.Answers.{IsAnswerOf, IsMeasuredOf, IsTooLong};
-ghost use Rattle.plan_search.specs.Solving.{solver_effort, solver_sizes};
+ghost use Rattle.plan_search.specs.Answers.{IsMeasuredOf, IsTooLong};
+ghost use Rattle.plan_search.specs.Solving.{solver_effort, solver_sizes, IsAnswerLeft};
 
 use crate::answer::Answer;
 use crate::found::found_of;
@@ -28,7 +28,7 @@ pub(crate) fn answer_of(
     requires names { HasNameLists problem.now }
     requires sizes { AreSizes sizes.now }
     requires solved { IsSolved problem.now (solver_sizes sizes.now) (solver_effort effort.now) closing }
-    ensures answer { IfOk result (IsAnswerOf problem.now effort.now sizes.now) }
+    ensures answer { IfOk result (IsAnswerLeft problem.now effort.now sizes.now closing) }
     ensures stops { IfErr result (λ stop. (stop ≡ NoMemory)
         ⊎ IsTooLong problem.now effort.now sizes.now stop) }
 {

@@ -45,7 +45,8 @@ pub(crate) fn found_of(
     requires names { HasNameLists problem.now }
     requires sizes { AreSizes sizes.now }
     requires solved { IsSolved problem.now (solver_sizes sizes.now) (solver_effort effort.now) closing }
-    ensures { IfOk result (IsFoundBy problem.now effort.now sizes.now) }
+    ensures found { IfOk result (IsFoundBy problem.now effort.now sizes.now) }
+    ensures left { IfOk result (λ found. found.closing ≡ closing) }
 {
     let certificate = certificate_of(alloc, problem, &closing.image)?;
     Ok(Found {
