@@ -1,4 +1,5 @@
 pub mod Asked
+pub mod Exchanges
 pub mod Flow
 pub mod Names
 pub mod Verdict

@@ -1,5 +1,5 @@
 -- What a search found that was reported, of the ground problem and of the task.
-use Rattle.std.proofs.Common.{◌≡◌, ◌≢◌, ℕ, ◌+◌, ◌*◌, ◌^◌, ◌<◌, ◌≤◌, ◌⊎◌, inl, inr, Bool, true, false, List, ◌++◌, length, refl, sym, ap, ◌∙◌, subst, arith, Option, Some, None, Result, Ok, Err}
+use Rattle.std.proofs.Common.{◌≡◌, ◌≢◌, ℕ, ◌+◌, ◌*◌, ◌^◌, ◌<◌, ◌≤◌, ◌⊎◌, inl, inr, Bool, true, false, List, [], ◌++◌, length, refl, sym, ap, ◌∙◌, subst, arith, Option, Some, None, Result, Ok, Err}
 use Rattle.std.specs.Prelude.{◌↔◌, IsTrue}
 use Rattle.std.proofs.Math.Nat.{mul-le-mul_left}
 use Rattle.std.specs.Borrow.{Bor}
@@ -22,13 +22,19 @@ use Rattle.ground_stands.specs.Laws.{SamePlain, SameDepth}
 use Rattle.task_certificates.specs.Laws.{BalanceIsCarried, TaskIsEnclosed}
 use Rattle.plan_request.specs.declared.effort.Effort.{Effort}
 use Rattle.plan_request.specs.declared.sizes.Sizes.{Sizes}
-use Rattle.plan_request.specs.Asked.{Sources, Solving, to_solve, to_bench}
+use Rattle.plan_request.specs.Asked.{Sources, Solving, to_solve, to_serve, to_bench}
 use Rattle.plan_request.specs.Laws.{AreTerms}
 use Rattle.plan_report.specs.Line.{line_text}
 use Rattle.plan_report.specs.declared.ending.Ending.TheVariants.{Converged}
 use Rattle.plan_report.specs.Solved.{Solved, solve_text}
 use Rattle.plan_search.specs.Found.{IsFound}
+use Rattle.plan_search.specs.declared.answer.Answer.{Answer}
 use Rattle.plan_search.specs.Answers.{IsReport, IsAnswerOf}
+use Rattle.plan_search.specs.Serving.{stop_of, IsServiceOf, KeepsEach}
+use Rattle.policy_server.specs.declared.serve_end.ServeEnd.{ServeEnd}
+use Rattle.policy_server.specs.declared.served.Served.{Served}
+use Rattle.policy_server.specs.Replies.{Reply}
+use Rattle.policy_server.specs.Serving.{Input}
 use Rattle.plan_stop.specs.declared.stop.Stop.{Stop}
 use Rattle.plan_stop.specs.declared.stop.Stop.TheVariants.{BadWords, ReadFailed, WriteFailed, NoMemory, Refused, NotAccepted, Limit}
 use Rattle.plan_stop.specs.Stop.{Ending, report_status, report_text, ending_status, ending_text, status_of}
@@ -37,10 +43,11 @@ use Rattle.plan_sources.specs.Problems.{one_text, problem_of}
 use Rattle.plan_sources.specs.Laws.{HoldsTexts, IsOfTexts, OneProblemIsTold, TextsStopSo, ProblemStands}
 use Rattle.plan_app.specs.Asking.{Asks}
 use Rattle.plan_app.specs.Measuring.{line_sources, line_problem, bench_effort, bench_sizes, bench_line}
-use Rattle.plan_app.specs.Endings.{said_by, IsMeasured, AnswersLine, IsWritten, AnswersSolve, Answers, MayEndAs}
-use Rattle.plan_app.specs.Verdicts.{TellsSolve, HasVerdict, HasReport, IsDecoded, IsAccepted}
-use Rattle.plan_app.specs.Solutions.{IsAsNarrowAsPlain, Solves, PutsSolution, PutsMeasure}
-use Rattle.plan_app.proofs.Statuses.{answers_of}
+use Rattle.plan_app.specs.Endings.{said_by, IsMeasured, exchange, Answered, AnswersLine, IsWritten, AnswersSearch, AnswersSolve, Answers, EndsBehind, HasService, MayEndAs}
+use Rattle.plan_app.specs.Verdicts.{TellsSearch, HasVerdict, HasReport, IsDecoded, IsAccepted}
+use Rattle.plan_app.specs.Solutions.{IsAsNarrowAsPlain, Solves, PutsSolution, PutsService, PutsMeasure}
+use Rattle.plan_app.proofs.Exchanges.{stops_by_fault}
+use Rattle.plan_app.proofs.Statuses.{answered_so, request_ends, answers_of}
 
 -- ---- intervals
 
@@ -175,58 +182,141 @@ module _ (stands : ProblemStands) (depths : SameDepth) (plain : SamePlain) (carr
             k N least enough m (rounds_at narrow.depth x.rounds 1) often);
       }
 
-  module _ {S : Type 0} {held : S → List ℕ → Told} {reads writes : S → ℕ} {words : List (Bor (List ℕ))} {old new : S} {status : ℕ} {text : List ℕ}
-      (ends : MayEndAs held reads writes words old new status text) (is : HasReport status) (stops : TextsStopSo) where
+  module _ {S : Type 0} {held : S → List ℕ → Told} {reads writes : S → ℕ} {words : List (Bor (List ℕ))} {old new : S} {from to : Input}
+      {status : ℕ} {text : List ℕ} (ends : MayEndAs held reads writes words old new from to status text) (is : HasReport status)
+      (stops : TextsStopSo) where
     ending_is : HasReport (ending_status ends.ending)
     ending_is = subst HasReport ends.status_is is
 
-    -- ---- `solve`
+    -- ---- `solve` and `serve`
+
+    -- a search that ended with a report has written its certificate
+    search_wrote : (s : Solving) (g : Ground) (Is : Answer → Type 0) (e : Ending) → HasReport (ending_status e)
+        → AnswersSearch held writes old new s g Is e → IsWritten held writes old new s.certificate Is e
+    search_wrote s g Is e has (inl wrote) = wrote
+    search_wrote s g Is e has (inr (inl (stop, long, says))) =
+        absurd (other_status (ending_status e) 8 (sym (ap ending_status says) ∙ ap status_of long.stop_is) (omega arith) has)
+    search_wrote s g Is e has (inr (inr (says, rose))) =
+        absurd (other_status (ending_status e) 4 (sym (ap ending_status says)) (omega arith) has)
 
     wrote_of : (s : Solving) (t : Texts) (r : Result Ground Stop) → problem_of s.sources t ≡ r → (e : Ending) → HasReport (ending_status e)
-        → AnswersSolve held writes old new s r e → (g : Ground) × (problem_of s.sources t ≡ Ok g) × IsWritten held writes old new s g e
-    wrote_of s t (Ok g) gives e has (inl wrote) = (g, gives, wrote)
-    wrote_of s t (Ok g) gives e has (inr (inl (stop, long, says))) =
-        absurd (other_status (ending_status e) 8 (sym (ap ending_status says) ∙ ap status_of long.stop_is) (omega arith) has)
-    wrote_of s t (Ok g) gives e has (inr (inr (says, rose))) =
-        absurd (other_status (ending_status e) 4 (sym (ap ending_status says)) (omega arith) has)
+        → AnswersSolve held writes old new s r e
+        → (g : Ground) × (problem_of s.sources t ≡ Ok g) × IsWritten held writes old new s.certificate (IsAnswerOf g s.effort s.sizes) e
+    wrote_of s t (Ok g) gives e has answers = (g, gives, search_wrote s g (IsAnswerOf g s.effort s.sizes) e has answers)
     wrote_of s t (Err stop) gives e has says =
         absurd (text_status stop (stops s.sources t stop gives) (subst (λ e. HasReport (ending_status e)) (sym says) has))
 
-    solution_from : (s : Solving) (t : Texts) → AreTerms s.sources → held old s.certificate ≢ Untold → (g : Ground) → problem_of s.sources t ≡ Ok g
-        → IsWritten held writes old new s g ends.ending
-        → (before now : Option (List ℕ)) → Appends before now text → PutsSolution s t status (held new s.certificate) before now
-    unfolding solved
-    solution_from s t are tells g gives wrote before now put =
-        let a = wrote.answer in
-        let its = wrote.is_answer in
-        let c = its.content in
-        let zero : (status ≡ 0) ↔ (c.upper ≤ c.lower + s.effort.gap) =
-        subst (λ n. (n ≡ 0) ↔ (c.upper ≤ c.lower + s.effort.gap)) (sym (ends.status_is ∙ sym (ap ending_status wrote.says)))
-        (said_status a.converged a.report _ _ its.report.converged_is its.found.converged) in
-        record {
-          solves = solved s.sources t are s.effort s.sizes status g gives c its.solved its.found zero;
-          holds = wrote.holds ∙ told_written (held old s.certificate) a.certificate tells ∙ ap Holds its.text;
-          accepted = (
-            g,
-            c,
-            gives,
-            record {
-              text = (its.found.certificate, refl);
-              within = subst (λ v. length (text_of c) ≤ most_bytes v) (sym its.found.version)
-                  (subst (λ bytes. length bytes ≤ most_bytes 2) its.text its.short);
-            },
-            its.found.balanced,
-          );
-          put = subst (Appends before now)
-              (ends.text_is ∙ sym (ap ending_text wrote.says) ∙ said_text a.converged a.report ∙ its.report.text) put;
-        }
+    module _ (s : Solving) (t : Texts) (are : AreTerms s.sources) (tells : held old s.certificate ≢ Untold) (before now : Option (List ℕ))
+        (put : Appends before now text) (g : Ground) (gives : problem_of s.sources t ≡ Ok g) where
+      -- what stands behind the answers, of this problem and this certificate
+      record HasSolution (c : Content) : Type 0 where
+        pub solution : PutsSolution s t status (held new s.certificate) ends.answers before now
+        pub same_problem : solution.solves.g ≡ g
+        pub same_content : solution.solves.c ≡ c
 
-    pub solution_put : (told : OneProblemIsTold) (s : Solving) (t : Texts) → AreTerms s.sources → TellsSolve words (held old) s t
-        → (before now : Option (List ℕ)) → Appends before now text → PutsSolution s t status (held new s.certificate) before now
+      solution_from : (Is : Answer → Type 0) (wrote : IsWritten held writes old new s.certificate Is ends.ending)
+          (its : IsAnswerOf g s.effort s.sizes wrote.answer) → HasSolution its.content
+      unfolding solved
+      solution_from Is wrote its =
+          let a = wrote.answer in
+          let c = its.content in
+          let zero : (status ≡ 0) ↔ (c.upper ≤ c.lower + s.effort.gap) =
+          subst (λ n. (n ≡ 0) ↔ (c.upper ≤ c.lower + s.effort.gap)) (sym (ends.status_is ∙ sym (ap ending_status wrote.says)))
+          (said_status a.converged a.report _ _ its.report.converged_is its.found.converged) in
+          let says : ending_text ends.ending ≡ solve_text g (ground_certificate g c).rows its.solved =
+          sym (ap ending_text wrote.says) ∙ said_text a.converged a.report ∙ its.report.text in
+          record {
+            solution = record {
+              solves = solved s.sources t are s.effort s.sizes status g gives c its.solved its.found zero;
+              holds = wrote.holds ∙ told_written (held old s.certificate) a.certificate tells ∙ ap Holds its.text;
+              accepted = (
+                g,
+                c,
+                gives,
+                record {
+                  text = (its.found.certificate, refl);
+                  within = subst (λ v. length (text_of c) ≤ most_bytes v) (sym its.found.version)
+                      (subst (λ bytes. length bytes ≤ most_bytes 2) its.text its.short);
+                },
+                its.found.balanced,
+              );
+              put = subst (Appends before now) (ends.text_is ∙ ap (λ report. ends.answers ++ report) says) put;
+            };
+            same_problem = refl;
+            same_content = refl;
+          }
+
+      -- what a server answered of this problem
+      service_from : (served : Served) (replies : List Reply) → Answered g (exchange from to ends.answers) served replies
+          → stop_of served.end ≡ None
+          → IsWritten held writes old new s.certificate (IsServiceOf g s.effort s.sizes replies) ends.ending
+          → PutsService s t status (held new s.certificate) from to before now
+      service_from served replies answered whole wrote =
+          let service = wrote.is_answer in
+          let has = solution_from (IsServiceOf g s.effort s.sizes replies) wrote service.is_answer in
+          let kept_here = subst (λ c. KeepsEach g c replies) (sym has.same_content) service.kept in
+          record {
+            answers = ends.answers;
+            solution = has.solution;
+            served = served;
+            replies = replies;
+            answered = subst (λ h. Answered h (exchange from to ends.answers) served replies) (sym has.same_problem) answered;
+            no_fault = whole;
+            kept = subst (λ h. KeepsEach h has.solution.solves.c replies) (sym has.same_problem) kept_here;
+          }
+
+    -- without a server there are no answers
+    no_answers : (s : Solving) → Asks words (to_solve s) → ends.answers ≡ []
+    no_answers s asks = elim (request_ends ends (to_solve s) asks) [
+      | inl (silent, may_end) ↦ silent.nothing_put
+      | inr service ↦ absurd service
+    ]
+
+    pub solution_put : (told : OneProblemIsTold) (s : Solving) (t : Texts) → AreTerms s.sources → TellsSearch words (held old) to_solve s t
+        → (before now : Option (List ℕ)) → Appends before now text → PutsSolution s t status (held new s.certificate) [] before now
     solution_put told s t are tells before now put =
-        let answers = answers_of ends (to_solve s) tells.asks (report_is_a_verdict status is) in
+        let answers = (answers_of ends (to_solve s) tells.asks (λ none. none) (report_is_a_verdict status is)).1 in
         let found = wrote_of s t answers.0 (told (held old) s.sources t tells.texts answers.0 answers.1) ends.ending ending_is answers.2 in
-        solution_from s t are tells.certificate found.0 found.1 found.2 before now put
+        let has = solution_from s t are tells.certificate before now put found.0 found.1 (IsAnswerOf found.0 s.effort s.sizes) found.2 found.2.is_answer in
+        subst (λ answers. PutsSolution s t status (held new s.certificate) answers before now) (no_answers s tells.asks) has.solution
+
+    -- behind a server that no fault stopped
+    behind_wrote : (s : Solving) (g : Ground) (replies : List Reply) (end : ServeEnd) (o : Option Stop) → stop_of end ≡ o
+        → EndsBehind held writes old new s g replies o ends.ending
+        → (o ≡ None) × IsWritten held writes old new s.certificate (IsServiceOf g s.effort s.sizes replies) ends.ending
+    behind_wrote s g replies end None so answers =
+        (refl, search_wrote s g (IsServiceOf g s.effort s.sizes replies) ends.ending ending_is answers)
+    behind_wrote s g replies end (Some stop) so says = absurd (elim (stops_by_fault end stop so) [
+      | inl three ↦ other_status (ending_status ends.ending) 3 (sym (ap ending_status says) ∙ ap status_of three) (omega arith) ending_is
+      | inr four ↦ other_status (ending_status ends.ending) 4 (sym (ap ending_status says) ∙ ap status_of four) (omega arith) ending_is
+    ])
+
+    service_of : (s : Solving) (service : HasService held reads writes old new (exchange from to ends.answers) s ends.ending)
+        → (stop_of service.served.end ≡ None)
+        × IsWritten held writes old new s.certificate (IsServiceOf service.g s.effort s.sizes service.replies) ends.ending
+    service_of s service = elim service.ends [
+      | inl none ↦ absurd (other_status (ending_status ends.ending) 5 (ap ending_status none) (omega arith) ending_is)
+      | inr behind ↦ behind_wrote s service.g service.replies service.served.end (stop_of service.served.end) refl behind
+    ]
+
+    -- a search that was reported under `serve` had a server
+    had_service : (told : OneProblemIsTold) (s : Solving) (t : Texts) → TellsSearch words (held old) to_serve s t
+        → HasService held reads writes old new (exchange from to ends.answers) s ends.ending
+    had_service told s t tells = elim (request_ends ends (to_serve s) tells.asks) [
+      | inl (silent, may_end) ↦
+          let (stop, given, says) = answered_so held reads writes old new (to_serve s) ends.ending may_end (report_is_a_verdict _ ending_is) in
+          let gives = told (held old) s.sources t tells.texts (Err stop) given in
+          absurd (text_status stop (stops s.sources t stop gives) (subst (λ e. HasReport (ending_status e)) (sym says) ending_is))
+      | inr service ↦ service
+    ]
+
+    pub service_put : (told : OneProblemIsTold) (s : Solving) (t : Texts) → AreTerms s.sources → TellsSearch words (held old) to_serve s t
+        → (before now : Option (List ℕ)) → Appends before now text → PutsService s t status (held new s.certificate) from to before now
+    service_put told s t are tells before now put =
+        let service = had_service told s t tells in
+        let gives = told (held old) s.sources t tells.texts (Ok service.g) service.problem in
+        let wrote = service_of s service in
+        service_from s t are tells.certificate before now put service.g gives service.served service.replies service.answered wrote.0 wrote.1
 
     -- ---- `bench`
 
@@ -238,9 +328,10 @@ module _ (stands : ProblemStands) (depths : SameDepth) (plain : SamePlain) (carr
         (subst (λ e. HasReport (ending_status e)) (sym says) has))
 
     measure_from : (places seed : ℕ) (g : Ground) → line_problem places seed ≡ Ok g → IsMeasured places seed g ends.ending
+        → text ≡ ending_text ends.ending
         → (before now : Option (List ℕ)) → Appends before now text → PutsMeasure places seed status before now
     unfolding solved
-    measure_from places seed g gives said before now put =
+    measure_from places seed g gives said text_is before now put =
         let m = said.measured in
         let its = said.is_measured in
         let c = its.content in
@@ -251,13 +342,14 @@ module _ (stands : ProblemStands) (depths : SameDepth) (plain : SamePlain) (carr
           solves = solved line_sources (one_text (line_text places seed)) line_terms (bench_effort seed) bench_sizes status
               g gives c its.solved its.found zero;
           put = subst (Appends before now)
-              (ends.text_is ∙ sym (ap ending_text said.says) ∙ said_text m.converged (bench_line places seed ++ m.report)
+              (text_is ∙ sym (ap ending_text said.says) ∙ said_text m.converged (bench_line places seed ++ m.report)
               ∙ ap (λ report. bench_line places seed ++ report) its.report.text) put;
         }
 
     pub measure_put : (places seed : ℕ) → Asks words (to_bench places seed)
         → (before now : Option (List ℕ)) → Appends before now text → PutsMeasure places seed status before now
     measure_put places seed asks before now put =
-        let answers = answers_of ends (to_bench places seed) asks (report_is_a_verdict status is) in
+        let put_so = answers_of ends (to_bench places seed) asks (λ none. none) (report_is_a_verdict status is) in
+        let answers = put_so.1 in
         let found = measured_of places seed answers.0 answers.1 ends.ending ending_is answers.2 in
-        measure_from places seed found.0 found.1 found.2 before now put
+        measure_from places seed found.0 found.1 found.2 put_so.0 before now put

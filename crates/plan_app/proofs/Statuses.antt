@@ -1,8 +1,9 @@
 -- The clauses of the top call, from how the words may end and what was put.
-use Rattle.std.proofs.Common.{◌≡◌, ◌≢◌, ℕ, ◌⊎◌, inl, inr, List, refl, sym, ap, ◌∙◌, subst, arith, Option, Some, None, Result, Ok, Err}
+use Rattle.std.proofs.Common.{◌≡◌, ◌≢◌, ℕ, ◌⊎◌, inl, inr, List, refl, sym, ap, ◌∙◌, ◌++◌, subst, arith, Option, Some, None, Result, Ok, Err}
 use Rattle.std.specs.Prelude.{◌↔◌}
 use Rattle.std.specs.Borrow.{Bor}
 use Rattle.std.specs.Io.KnownBytes.{Appends}
+use Rattle.std.proofs.KnownBytes.{Appends-trans}
 use Rattle.shelf_io.specs.Causes.{Rose}
 use Rattle.shelf_io.specs.Shelf.{Told}
 use Rattle.certificate.specs.Laws.{TextsAreRead}
@@ -14,19 +15,28 @@ use Rattle.task_certificates.specs.Laws.{BalanceIsCarried, TaskIsEnclosed, TaskP
 use Rattle.plan_request.specs.Asked.{Sources, Solving, Asked, to_solve, to_check, to_serve, to_ground, to_bench}
 use Rattle.plan_request.specs.Laws.{AreTerms}
 use Rattle.plan_stop.specs.declared.report.Report.TheVariants.{Done, GapLeft}
+use Rattle.plan_stop.specs.declared.stop.Stop.{Stop}
 use Rattle.plan_stop.specs.declared.stop.Stop.TheVariants.{BadWords, ReadFailed, WriteFailed, NoMemory, Refused, NotAccepted, Limit}
-use Rattle.plan_stop.specs.Stop.{Ending, ending_status, ending_text}
+use Rattle.plan_stop.specs.Stop.{Ending, ending_status, ending_text, status_of}
+use Rattle.plan_search.specs.Serving.{stop_of}
+use Rattle.policy_server.specs.Replies.{Reply}
+use Rattle.policy_server.specs.Serving.{Input}
 use Rattle.plan_sources.specs.declared.texts.Texts.{Texts}
 use Rattle.plan_sources.specs.Problems.{problem_of}
+use Rattle.plan_sources.specs.Sources.{MayGiveProblem}
 use Rattle.plan_sources.specs.Laws.{OneProblemIsTold, TextsStopSo, ProblemStands}
-use Rattle.plan_app.specs.Asking.{asked_by, Asks, AsksNothing}
-use Rattle.plan_app.specs.Endings.{Lacks, Answers, Faults, MayEndRequest, MayEndWords, MayEndAs}
+use Rattle.plan_app.specs.Asking.{asked_by, IsToServe, Asks, AsksNothing, AsksToServe}
+use Rattle.plan_app.specs.Endings.{Exchange, exchange, Lacks, Answers, EndsBehind, MayEndRequest, HasService, ServiceFor, MayEndWords, MayEndAs}
 use Rattle.plan_app.specs.Verdicts.{sources_of, TellsTexts, TellsGround, TellsCheck, HasVerdict, IsAnswerTo, IsRefused, IsLimited, IsGrounded, IsAccepted, IsRejected, MayBeTooLong, PutsProblem, PutsReport}
-use Rattle.plan_app.specs.Putting.{PutsPart, IsSaid, SaysPut, SaysCutShort}
-use Rattle.plan_app.proofs.Verdict.{IsLongFor, SaysOfTexts, answers_words, unwritten, text_verdict, ground_verdict, ground_reported, check_verdict, check_reported}
-use Rattle.plan_app.proofs.Answering.{answer_for}
+use Rattle.plan_app.specs.Putting.{PutsAnswers, PutsPart, IsSaid, SaysPut, SaysCutShort}
+use Rattle.plan_app.proofs.Exchanges.{prefix_behind, take_rose}
+use Rattle.plan_app.proofs.Verdict.{IsLongFor, Leads, SaysOfTexts, said_by_status, leads, service_led, answers_words, service_words, unwritten, text_verdict, ground_verdict, ground_reported, check_verdict, check_reported}
 
 -- ---- endings of requests
+
+read_failed_stop : (stop : Stop) → status_of stop ≡ 3 → stop ≡ ReadFailed
+read_failed_stop ReadFailed is = refl
+read_failed_stop _ is = absurd (omega (arith, is))
 
 module _ {S : Type 0} (held : S → List ℕ → Told) (reads writes : S → ℕ) (old new : S) where
   -- a request that has a verdict was answered by what the shelf held
@@ -47,12 +57,6 @@ module _ {S : Type 0} (held : S → List ℕ → Told) (reads writes : S → ℕ
   not_words stops q (Err ReadFailed) ends is = omega (arith, is)
   not_words stops q (Err _) ends is = omega (arith, is)
 
-  bad_words_for : TextsStopSo → (asked : Option Asked) (e : Ending) → MayEndWords held reads writes old new asked e → ending_status e ≢ 5
-      → (ending_status e ≡ 2) ↔ (asked ≡ None)
-  bad_words_for stops None e (inl bad) enough = ((λ two. refl), (λ none. ap ending_status bad))
-  bad_words_for stops None e (inr memory) enough = absurd (enough (ap ending_status memory))
-  bad_words_for stops (Some q) e ends enough = ((λ two. absurd (not_words stops q e ends two)), (λ none. absurd (cc none)))
-
   read_failed_so : (q : Asked) (e : Ending) → MayEndRequest held reads writes old new q e → ending_status e ≡ 3
       → Lacks (held old) q ⊎ Rose (reads old) (reads new)
   read_failed_so q (Err ReadFailed) ends is = ends
@@ -60,69 +64,139 @@ module _ {S : Type 0} (held : S → List ℕ → Told) (reads writes : S → ℕ
   read_failed_so q (Ok (GapLeft text)) ends is = absurd (omega (arith, is))
   read_failed_so q (Err _) ends is = absurd (omega (arith, is))
 
-  read_failed_for : (asked : Option Asked) (e : Ending) → MayEndWords held reads writes old new asked e → ending_status e ≡ 3
-      → ((q : Asked) × (asked ≡ Some q) × Lacks (held old) q) ⊎ Rose (reads old) (reads new)
-  read_failed_for None e (inl bad) three = absurd (omega (arith, three, ap ending_status bad))
-  read_failed_for None e (inr memory) three = absurd (omega (arith, three, ap ending_status memory))
-  read_failed_for (Some q) e ends three =
-      elim (read_failed_so q e ends three) [ inl lacks ↦ inl (q, refl, lacks) | inr rose ↦ inr rose ]
-
   -- a certificate that was not written is one of a search
   write_failed_so : TextsStopSo → (q : Asked) (e : Ending) → e ≡ Err WriteFailed → MayEndRequest held reads writes old new q e
       → (s : Solving) × (q ≡ to_solve s) × Rose (writes old) (writes new)
   write_failed_so stops q e is ends =
       unwritten held writes old new stops q (subst (λ e. MayEndRequest held reads writes old new q e) is ends)
 
-  pub write_failed_for : TextsStopSo → (asked : Option Asked) (e : Ending) → e ≡ Err WriteFailed → MayEndWords held reads writes old new asked e
-      → (s : Solving) × (asked ≡ Some (to_solve s)) × Rose (writes old) (writes new)
-  write_failed_for stops None e is (inl bad) = absurd (cc (is, bad))
-  write_failed_for stops None e is (inr memory) = absurd (cc (is, memory))
-  write_failed_for stops (Some q) e is ends =
-      let so = write_failed_so stops q e is ends in
-      (so.0, ap Some so.1, so.2)
+-- ---- endings with a server or without
 
-  -- so it is a fault of the request
-  pub write_rose : (words : List (Bor (List ℕ))) (q : Asked) → Asks words q
-      → (s : Solving) × (asked_by words ≡ Some (to_solve s)) × Rose (writes old) (writes new) → Faults held reads writes old new q
-  write_rose words q asks (s, is, rose) =
-      let same : to_solve s ≡ q = cc (asks, is) in
-      subst (λ q. Faults held reads writes old new q) same (inr rose)
+module _ {S : Type 0} (held : S → List ℕ → Told) (reads writes : S → ℕ) (old new : S) (x : Exchange) where
+  bad_words_for : TextsStopSo → (asked : Option Asked) (e : Ending) → MayEndWords held reads writes old new x asked e → ending_status e ≢ 5
+      → (ending_status e ≡ 2) ↔ (asked ≡ None)
+  bad_words_for stops None e (silent, inl bad) enough = ((λ two. refl), (λ none. ap ending_status bad))
+  bad_words_for stops None e (silent, inr memory) enough = absurd (enough (ap ending_status memory))
+  bad_words_for stops (Some q) e (inl (silent, ends)) enough =
+      ((λ two. absurd (not_words held reads writes old new stops q e ends two)), (λ none. absurd (cc none)))
+  bad_words_for stops (Some q) e (inr service) enough =
+      ((λ two. absurd (service_words held reads writes old new x q e service two)), (λ none. absurd (cc none)))
+
+  -- what is read where a server failed
+  behind_read_failed : (s : Solving) (g : Ground) (replies : List Reply) (o : Option Stop) (e : Ending)
+      → EndsBehind held writes old new s g replies o e → ending_status e ≡ 3 → o ≡ Some ReadFailed
+  behind_read_failed s g replies None e (inl wrote) three =
+      absurd (elim (said_by_status wrote.answer.converged wrote.answer.report) [
+        | inl zero ↦ omega (arith, zero, three, ap ending_status wrote.says)
+        | inr one ↦ omega (arith, one, three, ap ending_status wrote.says)
+      ])
+  behind_read_failed s g replies None e (inr (inl (stop, long, says))) three =
+      absurd (omega (arith, three, ap ending_status says, ap status_of long.stop_is))
+  behind_read_failed s g replies None e (inr (inr (says, rose))) three = absurd (omega (arith, three, ap ending_status says))
+  behind_read_failed s g replies (Some stop) e says three = ap Some (read_failed_stop stop (ap ending_status says ∙ three))
+
+  service_read_failed : (s : Solving) (e : Ending) → HasService held reads writes old new x s e → ending_status e ≡ 3
+      → Rose x.from.faults x.to.faults
+  service_read_failed s e service three = elim service.ends [
+    | inl none ↦ absurd (omega (arith, three, ap ending_status none))
+    | inr ends ↦ take_rose service.answered (behind_read_failed s service.g service.replies (stop_of service.served.end) e ends three)
+  ]
+
+  service_to_serve : (q : Asked) (e : Ending) → ServiceFor held reads writes old new x q e
+      → (s : Solving) × (q ≡ to_serve s) × HasService held reads writes old new x s e
+  service_to_serve (to_serve s) e service = (s, refl, service)
+  service_to_serve (to_solve s) e service = absurd service
+  service_to_serve (to_check s name) e service = absurd service
+  service_to_serve (to_ground s) e service = absurd service
+  service_to_serve (to_bench places seed) e service = absurd service
+
+  read_failed_for : (asked : Option Asked) (e : Ending) → MayEndWords held reads writes old new x asked e → ending_status e ≡ 3
+      → ((q : Asked) × (asked ≡ Some q) × Lacks (held old) q)
+      ⊎ (Rose (reads old) (reads new) ⊎ (IsToServe asked × Rose x.from.faults x.to.faults))
+  read_failed_for None e (silent, inl bad) three = absurd (omega (arith, three, ap ending_status bad))
+  read_failed_for None e (silent, inr memory) three = absurd (omega (arith, three, ap ending_status memory))
+  read_failed_for (Some q) e (inl (silent, ends)) three =
+      elim (read_failed_so held reads writes old new q e ends three) [ inl lacks ↦ inl (q, refl, lacks) | inr rose ↦ inr (inl rose) ]
+  read_failed_for (Some q) e (inr service) three =
+      let (s, is, has) = service_to_serve q e service in
+      inr (inr ((s, ap Some is), service_read_failed s e has three))
+
+  pub write_failed_for : TextsStopSo → (asked : Option Asked) (e : Ending) → e ≡ Err WriteFailed → MayEndWords held reads writes old new x asked e
+      → IsToServe asked ⊎ ((s : Solving) × (asked ≡ Some (to_solve s)) × Rose (writes old) (writes new))
+  write_failed_for stops None e is (silent, inl bad) = absurd (cc (is, bad))
+  write_failed_for stops None e is (silent, inr memory) = absurd (cc (is, memory))
+  write_failed_for stops (Some q) e is (inl (silent, ends)) =
+      let so = write_failed_so held reads writes old new stops q e is ends in
+      inr (so.0, ap Some so.1, so.2)
+  write_failed_for stops (Some q) e is (inr service) =
+      let so = service_to_serve q e service in
+      inl (so.0, ap Some so.1)
 
   -- what is said in place of an ending may be said
-  memory_may_end : (asked : Option Asked) → MayEndWords held reads writes old new asked (Err NoMemory)
-  memory_may_end None = inr refl
-  memory_may_end (Some q) = tt
+  no_memory_for : (q : Asked) (e : Ending) → ServiceFor held reads writes old new x q e → ServiceFor held reads writes old new x q (Err NoMemory)
+  no_memory_for (to_serve s) e service = record {
+    g = service.g;
+    problem = service.problem;
+    served = service.served;
+    replies = service.replies;
+    answered = service.answered;
+    ends = inl refl;
+  }
+  no_memory_for (to_solve s) e service = absurd service
+  no_memory_for (to_check s name) e service = absurd service
+  no_memory_for (to_ground s) e service = absurd service
+  no_memory_for (to_bench places seed) e service = absurd service
 
-  said_may_end : (asked : Option Asked) (e said : Ending) → MayEndWords held reads writes old new asked e → IsSaid e said
-      → MayEndWords held reads writes old new asked said
-  said_may_end asked e said ends (inl same) = subst (MayEndWords held reads writes old new asked) (sym same) ends
-  said_may_end asked e said ends (inr none) = subst (MayEndWords held reads writes old new asked) (sym none) (memory_may_end asked)
+  memory_may_end : (asked : Option Asked) (e : Ending) → MayEndWords held reads writes old new x asked e
+      → MayEndWords held reads writes old new x asked (Err NoMemory)
+  memory_may_end None e (silent, may_end) = (silent, inr refl)
+  memory_may_end (Some q) e (inl (silent, may_end)) = inl (silent, tt)
+  memory_may_end (Some q) e (inr service) = inr (no_memory_for q e service)
+
+  said_may_end : (asked : Option Asked) (e said : Ending) → MayEndWords held reads writes old new x asked e → IsSaid e said
+      → MayEndWords held reads writes old new x asked said
+  said_may_end asked e said ends (inl same) = subst (MayEndWords held reads writes old new x asked) (sym same) ends
+  said_may_end asked e said ends (inr none) = subst (MayEndWords held reads writes old new x asked) (sym none) (memory_may_end asked e ends)
 
 -- ---- from what was put
 
-module _ {S : Type 0} (held : S → List ℕ → Told) (reads writes : S → ℕ) (words : List (Bor (List ℕ))) (old new : S) (e : Ending)
-    (may_end : MayEndWords held reads writes old new (asked_by words) e) where
-  pub ended : (status : ℕ) (before now : Option (List ℕ)) (says : SaysPut e status before now)
-      → MayEndAs held reads writes words old new status (ending_text says.said)
-  ended status before now says = record {
+module _ {S : Type 0} (held : S → List ℕ → Told) (reads writes : S → ℕ) (words : List (Bor (List ℕ))) (old new : S) (from to : Input)
+    (before mid : Option (List ℕ)) (e : Ending) (puts : PutsAnswers held reads writes old new from to before mid (asked_by words) e) where
+  abbrev said_ends : (said : Ending) → IsSaid e said → MayEndWords held reads writes old new (exchange from to puts.answers) (asked_by words) said
+  said_ends said is_said = said_may_end held reads writes old new (exchange from to puts.answers) (asked_by words) e said puts.may_end is_said
+
+  pub ended : (status : ℕ) (now : Option (List ℕ)) (says : SaysPut e status mid now)
+      → MayEndAs held reads writes words old new from to status (puts.answers ++ ending_text says.said)
+  ended status now says = record {
+    answers = puts.answers;
     ending = says.said;
-    may_end = said_may_end held reads writes old new (asked_by words) e says.said may_end says.is_said;
+    may_end = said_ends says.said says.is_said;
     status_is = says.status_is;
     text_is = refl;
   }
 
-  pub cut : (before now : Option (List ℕ)) (says : SaysCutShort e before now)
-      → (status : ℕ) × (text : List ℕ) × MayEndAs held reads writes words old new status text × PutsPart before now status text
-  cut before now says = (
+  pub put_whole : (status : ℕ) (now : Option (List ℕ)) (says : SaysPut e status mid now)
+      → Appends before now (puts.answers ++ ending_text says.said)
+  put_whole status now says = Appends-trans before mid now puts.answers (ending_text says.said) puts.put says.put
+
+  put_part : (status : ℕ) (text : List ℕ) (now : Option (List ℕ)) → PutsPart mid now status text
+      → PutsPart before now status (puts.answers ++ text)
+  put_part status text now (inl part) = inl (prefix_behind before mid now puts.answers text puts.put part)
+  put_part status text now (inr (four, put)) = inr (four, Appends-trans before mid now puts.answers text puts.put put)
+
+  pub cut : (now : Option (List ℕ)) (says : SaysCutShort e mid now)
+      → (status : ℕ) × (text : List ℕ) × MayEndAs held reads writes words old new from to status text × PutsPart before now status text
+  cut now says = (
     ending_status says.said,
-    ending_text says.said,
+    puts.answers ++ ending_text says.said,
     record {
+      answers = puts.answers;
       ending = says.said;
-      may_end = said_may_end held reads writes old new (asked_by words) e says.said may_end says.is_said;
+      may_end = said_ends says.said says.is_said;
       status_is = refl;
       text_is = refl;
     },
-    says.put,
+    put_part (ending_status says.said) (ending_text says.said) now says.put,
   )
 
 -- ---- the clauses of the top call
@@ -134,27 +208,56 @@ too_long_for words s t (to_solve x) asks is g problem (stop, long) =
     let same : x.sources ≡ s = cc is in
     record {
       solving = x;
-      asks = asks;
+      asks = inl asks;
       g = g;
       problem = subst (λ y. problem_of y t ≡ Ok g) (sym same) problem;
       stop = stop;
       too_long = long;
     }
 too_long_for words s t (to_check x name) asks is g problem long = absurd long
-too_long_for words s t (to_serve x) asks is g problem long = absurd long
+too_long_for words s t (to_serve x) asks is g problem (stop, long) =
+    let same : x.sources ≡ s = cc is in
+    record {
+      solving = x;
+      asks = inr asks;
+      g = g;
+      problem = subst (λ y. problem_of y t ≡ Ok g) (sym same) problem;
+      stop = stop;
+      too_long = long;
+    }
 too_long_for words s t (to_ground x) asks is g problem long = absurd long
 too_long_for words s t (to_bench places seed) asks is g problem long = absurd (cc is)
 
-module _ {S : Type 0} {held : S → List ℕ → Told} {reads writes : S → ℕ} {words : List (Bor (List ℕ))} {old new : S} {status : ℕ} {text : List ℕ}
-    (ends : MayEndAs held reads writes words old new status text) where
-  request_ends : (q : Asked) → Asks words q → MayEndRequest held reads writes old new q ends.ending
-  request_ends q asks = subst (λ asked. MayEndWords held reads writes old new asked ends.ending) asks ends.may_end
+module _ {S : Type 0} {held : S → List ℕ → Told} {reads writes : S → ℕ} {words : List (Bor (List ℕ))} {old new : S} {from to : Input}
+    {status : ℕ} {text : List ℕ} (ends : MayEndAs held reads writes words old new from to status text) where
+  abbrev pub x : Exchange
+  x = exchange from to ends.answers
+
+  pub request_ends : (q : Asked) → Asks words q → MayEndWords held reads writes old new x (Some q) ends.ending
+  request_ends q asks = subst (λ asked. MayEndWords held reads writes old new x asked ends.ending) asks ends.may_end
 
   verdict_of : HasVerdict status → HasVerdict (ending_status ends.ending)
   verdict_of verdict = subst HasVerdict ends.status_is verdict
 
-  pub answers_of : (q : Asked) → Asks words q → HasVerdict status → Answers held writes old new q ends.ending
-  answers_of q asks verdict = answered_so held reads writes old new q ends.ending (request_ends q asks) (verdict_of verdict)
+  -- a request that starts no server has no answers but its ending
+  pub answers_of : (q : Asked) → Asks words q → (ServiceFor held reads writes old new x q ends.ending → ⊥) → HasVerdict status
+      → (text ≡ ending_text ends.ending) × Answers held writes old new q ends.ending
+  answers_of q asks none verdict = elim (request_ends q asks) [
+    | inl (silent, may_end) ↦ (
+      ends.text_is ∙ ap (λ answers. answers ++ ending_text ends.ending) silent.nothing_put,
+      answered_so held reads writes old new q ends.ending may_end (verdict_of verdict),
+    )
+    | inr service ↦ absurd (none service)
+  ]
+
+  -- where the texts lead
+  led : (s : Sources) (q : Asked) → Asks words q → sources_of q ≡ Some s → HasVerdict status
+      → (r : Result Ground Stop) × MayGiveProblem (held old) s r × Leads (IsLongFor q) r ends.ending
+  led s q asks is verdict = elim (request_ends q asks) [
+    | inl (silent, may_end) ↦
+        leads held writes old new s q is ends.ending (answered_so held reads writes old new q ends.ending may_end (verdict_of verdict))
+    | inr service ↦ service_led held reads writes old new x s q is ends.ending service
+  ]
 
   -- what is exactly so of the status of the ending is so of the status
   exactly : (n : ℕ) (P : Type 0) → (ending_status ends.ending ≡ n) ↔ P → (status ≡ n) ↔ P
@@ -163,16 +266,12 @@ module _ {S : Type 0} {held : S → List ℕ → Told} {reads writes : S → ℕ
   pub bad_words_exactly : TextsStopSo → status ≢ 5 → (status ≡ 2) ↔ AsksNothing words
   bad_words_exactly stops enough =
       exactly 2 (AsksNothing words)
-      (bad_words_for held reads writes old new stops (asked_by words) ends.ending ends.may_end (subst (λ m. m ≢ 5) ends.status_is enough))
+      (bad_words_for held reads writes old new x stops (asked_by words) ends.ending ends.may_end (subst (λ m. m ≢ 5) ends.status_is enough))
 
-  pub read_failed_only : status ≡ 3 → ((q : Asked) × Asks words q × Lacks (held old) q) ⊎ Rose (reads old) (reads new)
+  pub read_failed_only : status ≡ 3 → ((q : Asked) × Asks words q × Lacks (held old) q)
+      ⊎ (Rose (reads old) (reads new) ⊎ (AsksToServe words × Rose from.faults to.faults))
   read_failed_only three =
-      read_failed_for held reads writes old new (asked_by words) ends.ending ends.may_end (sym ends.status_is ∙ three)
-
-  pub answered : TextsStopSo → (q : Asked) → Asks words q → (Lacks (held old) q → ⊥) → (Faults held reads writes old new q → ⊥)
-      → IsAnswerTo q status
-  answered stops q asks lacks faults =
-      subst (IsAnswerTo q) (sym ends.status_is) (answer_for held reads writes old new stops q ends.ending (request_ends q asks) lacks faults)
+      read_failed_for held reads writes old new x (asked_by words) ends.ending ends.may_end (sym ends.status_is ∙ three)
 
   zero_is_a_verdict : status ≡ 0 → HasVerdict status
   zero_is_a_verdict zero = record {
@@ -192,8 +291,8 @@ module _ {S : Type 0} {held : S → List ℕ → Told} {reads writes : S → ℕ
     module _ (tells : TellsTexts words (held old) s t) where
       says : HasVerdict status → SaysOfTexts s t (IsLongFor tells.request) (ending_status ends.ending)
       says verdict =
-          text_verdict held writes old new told stops s t tells.texts tells.request tells.sources ends.ending
-          (answers_of tells.request tells.asks verdict)
+          text_verdict (held old) told stops s t tells.texts tells.request ends.ending
+          (led s tells.request tells.asks tells.sources verdict)
 
       pub refused_exactly : HasVerdict status → (status ≡ 6) ↔ IsRefused s t
       refused_exactly verdict = exactly 6 (IsRefused s t) (says verdict).refused
@@ -210,18 +309,19 @@ module _ {S : Type 0} {held : S → List ℕ → Told} {reads writes : S → ℕ
     pub grounded_exactly : TellsGround words (held old) s t → HasVerdict status → (status ≡ 0) ↔ IsGrounded s t
     grounded_exactly tells verdict =
         exactly 0 (IsGrounded s t)
-        (ground_verdict (held old) told stops s t tells.texts ends.ending (answers_of (to_ground s) tells.asks verdict))
+        (ground_verdict (held old) told stops s t tells.texts ends.ending (answers_of (to_ground s) tells.asks (λ none. none) verdict).1)
 
     pub problem_put : ProblemStands → AreTerms s → TellsGround words (held old) s t → (before now : Option (List ℕ)) → status ≡ 0
         → Appends before now text → PutsProblem s t before now
     problem_put stands are tells before now zero put =
+        let put_so = answers_of (to_ground s) tells.asks (λ none. none) (zero_is_a_verdict zero) in
         let found = ground_reported (held old) told stops s t tells.texts ends.ending
-        (answers_of (to_ground s) tells.asks (zero_is_a_verdict zero)) (sym ends.status_is ∙ zero) in
+        put_so.1 (sym ends.status_is ∙ zero) in
         record {
           g = found.0;
           problem = found.1;
           of_task = stands s t found.0 are found.1;
-          put = subst (Appends before now) (ends.text_is ∙ ap ending_text found.2) put;
+          put = subst (Appends before now) (put_so.0 ∙ ap ending_text found.2) put;
         }
 
     module _ (law : TextsAreRead) (balance : AcceptedIsBalanced) (f : List ℕ) (tells : TellsCheck words (held old) s t f) where
@@ -229,20 +329,21 @@ module _ {S : Type 0} {held : S → List ℕ → Told} {reads writes : S → ℕ
       accepted_exactly verdict =
           exactly 0 (IsAccepted s t f)
           (check_verdict (held old) told stops s t tells.texts law balance f tells.name tells.certificate ends.ending
-          (answers_of (to_check s tells.name) tells.asks verdict) (verdict_of verdict)).0
+          (answers_of (to_check s tells.name) tells.asks (λ none. none) verdict).1 (verdict_of verdict)).0
 
       pub rejected_exactly : HasVerdict status → (status ≡ 7) ↔ IsRejected s t f
       rejected_exactly verdict =
           exactly 7 (IsRejected s t f)
           (check_verdict (held old) told stops s t tells.texts law balance f tells.name tells.certificate ends.ending
-          (answers_of (to_check s tells.name) tells.asks verdict) (verdict_of verdict)).1
+          (answers_of (to_check s tells.name) tells.asks (λ none. none) verdict).1 (verdict_of verdict)).1
 
       -- the report that was put, and what the certificate says of the task
       pub report_put : ProblemStands → AreTerms s → BalanceIsCarried → TaskIsEnclosed → TaskPolicyEnds → ((task : Task) → WellFormedSums task)
           → (before now : Option (List ℕ)) → status ≡ 0 → Appends before now text → PutsReport s t f before now
       report_put stands are carried enclosed ending sums before now zero put =
+          let put_so = answers_of (to_check s tells.name) tells.asks (λ none. none) (zero_is_a_verdict zero) in
           let found = check_reported (held old) told stops s t tells.texts law balance f tells.name tells.certificate ends.ending
-          (answers_of (to_check s tells.name) tells.asks (zero_is_a_verdict zero)) (sym ends.status_is ∙ zero) in
+          put_so.1 (sym ends.status_is ∙ zero) in
           let of_task = stands s t found.0 are found.2 in
           record {
             g = found.0;
@@ -250,7 +351,7 @@ module _ {S : Type 0} {held : S → List ℕ → Told} {reads writes : S → ℕ
             problem = found.2;
             decoded = found.3;
             balanced_for = found.4;
-            put = subst (Appends before now) (ends.text_is ∙ ap ending_text found.5) put;
+            put = subst (Appends before now) (put_so.0 ∙ ap ending_text found.5) put;
             of_task = of_task;
             balanced = (carried found.0 of_task.task of_task.charges of_task.stands found.1).0 found.4.balanced;
             encloses = enclosed found.0 of_task.task of_task.charges of_task.stands found.1 found.4;

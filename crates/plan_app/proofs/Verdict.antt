@@ -21,7 +21,11 @@ use Rattle.plan_request.specs.declared.sizes.Sizes.{Sizes}
 use Rattle.plan_report.specs.Line.{line_text}
 use Rattle.plan_report.specs.Reports.{accepted_text, ground_text}
 use Rattle.plan_stop.specs.declared.stop.Stop.{Stop}
-use Rattle.plan_search.specs.Answers.{IsTooLong}
+use Rattle.plan_search.specs.Answers.{IsAnswerOf, IsTooLong}
+use Rattle.plan_search.specs.Serving.{stop_of, IsServiceOf}
+use Rattle.plan_search.specs.declared.answer.Answer.{Answer}
+use Rattle.policy_server.specs.declared.serve_end.ServeEnd.{ServeEnd}
+use Rattle.policy_server.specs.Replies.{Reply}
 use Rattle.plan_stop.specs.declared.report.Report.TheVariants.{Done}
 use Rattle.plan_stop.specs.declared.stop.Stop.TheVariants.{BadWords, ReadFailed, WriteFailed, NoMemory, Refused, NotAccepted, Limit}
 use Rattle.plan_stop.specs.Stop.{Ending, report_status, ending_status, status_of, stop_of_certificate}
@@ -32,7 +36,8 @@ use Rattle.plan_sources.specs.Sources.{MayGiveProblem, certificate_in}
 use Rattle.plan_sources.specs.Laws.{HoldsTexts, OneProblemIsTold, IsOfTexts, TextsStopSo}
 use Rattle.plan_sources.proofs.Telling.{told_held}
 use Rattle.plan_app.specs.Measuring.{line_sources}
-use Rattle.plan_app.specs.Endings.{said_at, said_of, said_by, IsJudged, IsTooLongSo, AnswersLine, AnswersCheck, AnswersSolve, reported, Answers}
+use Rattle.plan_app.specs.Endings.{said_at, said_of, said_by, IsJudged, IsTooLongSo, Exchange, AnswersLine, AnswersCheck, AnswersSearch, AnswersSolve, reported, Answers, EndsBehind, HasService, ServiceFor}
+use Rattle.plan_app.proofs.Exchanges.{stops_by_fault}
 use Rattle.plan_app.specs.Verdicts.{sources_of, HasVerdict, IsRefused, IsLimited, IsGrounded, IsDecoded, IsAccepted, IsRejected}
 
 -- a status that an ending has, and one that it has not
@@ -95,7 +100,7 @@ pub record IsOfProblem (long : Type 0) (status : ℕ) : Type 0 where
   pub not_refused : status ≢ 6
   pub limited : status ≡ 8 → long
 
-abbrev Leads : (Ground → Type 0) → Result Ground Stop → Ending → Type 0
+abbrev pub Leads : (Ground → Type 0) → Result Ground Stop → Ending → Type 0
 Leads long (Err stop) e = Err stop ≡ e
 Leads long (Ok g) e = IsOfProblem (long g) (ending_status e)
 
@@ -103,7 +108,7 @@ Leads long (Ok g) e = IsOfProblem (long g) (ending_status e)
 abbrev pub IsLongFor : Asked → Ground → Type 0
 IsLongFor (to_solve s) g = (stop : Stop) × IsTooLong g s.effort s.sizes stop
 IsLongFor (to_check s name) g = ⊥
-IsLongFor (to_serve s) g = ⊥
+IsLongFor (to_serve s) g = (stop : Stop) × IsTooLong g s.effort s.sizes stop
 IsLongFor (to_ground s) g = ⊥
 IsLongFor (to_bench places seed) g = ⊥
 
@@ -188,12 +193,29 @@ stop_is_not_words (NotAccepted code row) so = absurd so
 -- ---- over all requests
 
 module _ {S : Type 0} (held : S → List ℕ → Told) (writes : S → ℕ) (old new : S) where
-  solve_leads : (s : Solving) (r : Result Ground Stop) (e : Ending) → AnswersSolve held writes old new s r e → Leads (IsLongFor (to_solve s)) r e
-  solve_leads s (Ok g) e (inl wrote) = search_leads (IsLongFor (to_solve s) g) wrote.answer.converged _ e wrote.says
-  solve_leads s (Ok g) e (inr (inl long)) = long_leads g s.effort s.sizes e long
-  solve_leads s (Ok g) e (inr (inr (says, rose))) =
+  -- behind a search
+  searched_leads : (s : Solving) (g : Ground) (Is : Answer → Type 0) (e : Ending) → AnswersSearch held writes old new s g Is e
+      → IsOfProblem (IsLongFor (to_solve s) g) (ending_status e)
+  searched_leads s g Is e (inl wrote) = search_leads (IsLongFor (to_solve s) g) wrote.answer.converged _ e wrote.says
+  searched_leads s g Is e (inr (inl long)) = long_leads g s.effort s.sizes e long
+  searched_leads s g Is e (inr (inr (says, rose))) =
       subst (λ e. IsOfProblem (IsLongFor (to_solve s) g) (ending_status e)) says (four_leads (IsLongFor (to_solve s) g) 4 refl)
+
+  solve_leads : (s : Solving) (r : Result Ground Stop) (e : Ending) → AnswersSolve held writes old new s r e → Leads (IsLongFor (to_solve s)) r e
+  solve_leads s (Ok g) e answers = searched_leads s g (IsAnswerOf g s.effort s.sizes) e answers
   solve_leads s (Err stop) e says = says
+
+  -- behind a server
+  behind_leads : (s : Solving) (g : Ground) (replies : List Reply) (end : ServeEnd) (o : Option Stop) → stop_of end ≡ o → (e : Ending)
+      → EndsBehind held writes old new s g replies o e → IsOfProblem (IsLongFor (to_serve s) g) (ending_status e)
+  behind_leads s g replies end None is e ends = searched_leads s g (IsServiceOf g s.effort s.sizes replies) e ends
+  behind_leads s g replies end (Some stop) is e says =
+      subst (λ e. IsOfProblem (IsLongFor (to_serve s) g) (ending_status e)) says
+      (elim (stops_by_fault end stop is) [
+        | inl three ↦ status_leads (IsLongFor (to_serve s) g) (status_of stop) 3 (ap status_of three)
+            (λ e. omega (arith, e)) (λ e. omega (arith, e)) (λ e. omega (arith, e))
+        | inr four ↦ four_leads (IsLongFor (to_serve s) g) (status_of stop) (ap status_of four)
+      ])
 
   check_leads : (name : List ℕ) (r : Result Ground Stop) (e : Ending) → AnswersCheck (held old) name r e → Leads (λ g. ⊥) r e
   check_leads name (Ok g) e (rc, (bytes, holds, read), judged) = judged_leads g rc bytes read e judged
@@ -203,9 +225,11 @@ module _ {S : Type 0} (held : S → List ℕ → Told) (writes : S → ℕ) (old
   ground_leads (Ok g) e says = subst (λ e. IsOfProblem ⊥ (ending_status e)) says (zero_leads ⊥ 0 refl)
   ground_leads (Err stop) e says = says
 
-  leads : (s : Sources) (q : Asked) → sources_of q ≡ Some s → (e : Ending) → Answers held writes old new q e
+  pub leads : (s : Sources) (q : Asked) → sources_of q ≡ Some s → (e : Ending) → Answers held writes old new q e
       → (r : Result Ground Stop) × MayGiveProblem (held old) s r × Leads (IsLongFor q) r e
-  leads s (to_serve x) is e answers = absurd answers
+  leads s (to_serve x) is e (stop, given, says) =
+      let same : x.sources ≡ s = cc is in
+      (Err stop, subst (λ y. MayGiveProblem (held old) y (Err stop)) same given, says)
   leads s (to_bench places seed) is e answers = absurd (cc is)
   leads s (to_solve x) is e (r, given, rest) =
       let same : x.sources ≡ s = cc is in
@@ -224,7 +248,8 @@ module _ {S : Type 0} (held : S → List ℕ → Told) (writes : S → ℕ) (old
   led_words s t long stops (Err stop) is e says = subst (λ e. ending_status e ≢ 2) says (stop_is_not_words stop (stops s t stop is))
 
   pub answers_words : TextsStopSo → (q : Asked) (e : Ending) → Answers held writes old new q e → ending_status e ≢ 2
-  answers_words stops (to_serve x) e answers = absurd answers
+  answers_words stops (to_serve s) e (stop, (t, are, is), says) =
+      led_words s.sources t (IsLongFor (to_serve s)) stops (Err stop) is e says
   answers_words stops (to_bench places seed) e (r, given, rest) =
       led_words line_sources (one_text (line_text places seed)) (IsLongFor (to_bench places seed)) stops r given e (line_leads places seed r e rest)
   answers_words stops (to_solve s) e (r, (t, are, is), rest) =
@@ -277,7 +302,8 @@ module _ {S : Type 0} (held : S → List ℕ → Told) (writes : S → ℕ) (old
       → (s : Solving) × (q ≡ to_solve s) × Rose (writes old) (writes new)
   unwritten stops (to_solve s) (r, (t, are, is), rest) = (s, refl, solve_unwritten s r (texts_unwritten stops s.sources t r is) rest)
   unwritten stops (to_check s name) (r, (t, are, is), rest) = absurd (check_unwritten name r (texts_unwritten stops s t r is) rest)
-  unwritten stops (to_serve s) answers = absurd answers
+  unwritten stops (to_serve s) (stop, (t, are, is), says) =
+      absurd (texts_unwritten stops s.sources t (Err stop) is stop refl (cc says))
   unwritten stops (to_ground s) (r, (t, are, is), rest) = absurd (ground_unwritten r (texts_unwritten stops s t r is) rest)
   unwritten stops (to_bench places seed) (r, is, rest) =
       absurd (line_unwritten places seed r (texts_unwritten stops line_sources (one_text (line_text places seed)) r is) rest)
@@ -316,13 +342,38 @@ module _ (stops : TextsStopSo) (s : Sources) (t : Texts) where
   led_verdict long (Err stop) e is says =
       subst (λ e. SaysOfTexts s t long (ending_status e)) says (stop_verdict long stop is (stops s t stop is))
 
-module _ {S : Type 0} (held : S → List ℕ → Told) (writes : S → ℕ) (old new : S) (told : OneProblemIsTold) (stops : TextsStopSo) where
+-- ---- with a server or without
+
+module _ {S : Type 0} (held : S → List ℕ → Told) (reads writes : S → ℕ) (old new : S) (x : Exchange) where
+  service_leads : (s : Solving) (e : Ending) (service : HasService held reads writes old new x s e)
+      → IsOfProblem (IsLongFor (to_serve s) service.g) (ending_status e)
+  service_leads s e service = elim service.ends [
+    | inl none ↦ five_leads (IsLongFor (to_serve s) service.g) (ending_status e) (ap ending_status none)
+    | inr ends ↦ behind_leads held writes old new s service.g service.replies service.served.end (stop_of service.served.end) refl e ends
+  ]
+
+  pub service_led : (s : Sources) (q : Asked) → sources_of q ≡ Some s → (e : Ending) → ServiceFor held reads writes old new x q e
+      → (r : Result Ground Stop) × MayGiveProblem (held old) s r × Leads (IsLongFor q) r e
+  service_led s (to_serve y) is e service =
+      let same : y.sources ≡ s = cc is in
+      (Ok service.g, subst (λ z. MayGiveProblem (held old) z (Ok service.g)) same service.problem, service_leads y e service)
+  service_led s (to_solve y) is e service = absurd service
+  service_led s (to_check y name) is e service = absurd service
+  service_led s (to_ground y) is e service = absurd service
+  service_led s (to_bench places seed) is e service = absurd service
+
+  pub service_words : (q : Asked) (e : Ending) → ServiceFor held reads writes old new x q e → ending_status e ≢ 2
+  service_words (to_serve s) e service = (service_leads s e service).not_words
+  service_words (to_solve s) e service = absurd service
+  service_words (to_check s name) e service = absurd service
+  service_words (to_ground s) e service = absurd service
+  service_words (to_bench places seed) e service = absurd service
+
+module _ (held : List ℕ → Told) (told : OneProblemIsTold) (stops : TextsStopSo) where
   -- what the status says of the texts
-  pub text_verdict : (s : Sources) (t : Texts) → HoldsTexts (held old) s t → (q : Asked) → sources_of q ≡ Some s → (e : Ending)
-      → Answers held writes old new q e → SaysOfTexts s t (IsLongFor q) (ending_status e)
-  text_verdict s t texts q is e answers =
-      let led = leads held writes old new s q is e answers in
-      led_verdict stops s t (IsLongFor q) led.0 e (told (held old) s t texts led.0 led.1) led.2
+  pub text_verdict : (s : Sources) (t : Texts) → HoldsTexts held s t → (q : Asked) (e : Ending)
+      → (r : Result Ground Stop) × MayGiveProblem held s r × Leads (IsLongFor q) r e → SaysOfTexts s t (IsLongFor q) (ending_status e)
+  text_verdict s t texts q e led = led_verdict stops s t (IsLongFor q) led.0 e (told held s t texts led.0 led.1) led.2
 
 module _ (held : List ℕ → Told) where
   module _ (told : OneProblemIsTold) (stops : TextsStopSo) (s : Sources) (t : Texts) (texts : HoldsTexts held s t) where

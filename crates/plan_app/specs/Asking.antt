@@ -1,33 +1,34 @@
 -- What words ask for.
---     is_built q          the program has the command of this request; the words of others ask for nothing until it is built
---     built q             the request, if it has
---     asked_of words, asked_by words
---                         the request of words, and of words that are lent, if they have one
+--     asked_by words          the request of words that are lent, if they have one
+--     IsToSearch asked s      it asks to solve this task, with a server or without one
+--     IsToServe asked         it asks for a server
 --     Asks words q, AsksNothing words
---                         they ask for this, or for nothing
-use Rattle.std.specs.Prelude.{◌≡◌, ℕ, Bool, true, false, List, Option, Some, None, option_and_then, if◌then◌else◌}
+--                             they ask for this, or for nothing
+--     AsksToSearch words s, AsksToServe words
+--                             the same of words
+use Rattle.std.specs.Prelude.{◌≡◌, ◌⊎◌, ℕ, List, Option, Some, None}
 use Rattle.std.specs.Borrow.{Bor}
 use Rattle.command_words.specs.Shown.{texts_of}
-use Rattle.plan_request.specs.Asked.{Asked, to_solve, to_check, to_serve, to_ground, to_bench, request_of}
-
-abbrev pub is_built : Asked → Bool
-is_built (to_solve s) = true
-is_built (to_check s name) = true
-is_built (to_serve s) = false
-is_built (to_ground s) = true
-is_built (to_bench places seed) = true
-
-abbrev pub built : Asked → Option Asked
-built q = if is_built q then Some q else None
-
-abbrev pub asked_of : List (List ℕ) → Option Asked
-asked_of words = option_and_then built (request_of words)
+use Rattle.plan_request.specs.Asked.{Solving, Asked, to_solve, to_serve, request_of}
 
 abbrev pub asked_by : List (Bor (List ℕ)) → Option Asked
-asked_by words = asked_of (texts_of words)
+asked_by words = request_of (texts_of words)
 
-abbrev pub Asks : List (Bor (List ℕ)) → Asked → Type 0
-Asks words q = asked_by words ≡ Some q
+abbrev pub IsToSearch : Option Asked → Solving → Type 0
+IsToSearch asked s = (asked ≡ Some (to_solve s)) ⊎ (asked ≡ Some (to_serve s))
 
-abbrev pub AsksNothing : List (Bor (List ℕ)) → Type 0
-AsksNothing words = asked_by words ≡ None
+abbrev pub IsToServe : Option Asked → Type 0
+IsToServe asked = (s : Solving) × (asked ≡ Some (to_serve s))
+
+module _ (words : List (Bor (List ℕ))) where
+  abbrev pub Asks : Asked → Type 0
+  Asks q = asked_by words ≡ Some q
+
+  abbrev pub AsksNothing : Type 0
+  AsksNothing = asked_by words ≡ None
+
+  abbrev pub AsksToSearch : Solving → Type 0
+  AsksToSearch s = IsToSearch (asked_by words) s
+
+  abbrev pub AsksToServe : Type 0
+  AsksToServe = IsToServe (asked_by words)

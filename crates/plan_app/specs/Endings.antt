@@ -1,19 +1,29 @@
 -- How a run ends: with what status, what it puts, and what it leaves. It is said here once, over all commands: of a command `Lacks`
--- has a line, and so have `Answers`, `Leaves` and `CallsFor`.
+-- has a line, and so have `Answers`, `ServiceFor`, `Faults`, `Leaves` and `CallsFor`.
 --     said_of c v                 what is said of a certificate at this verdict: its report, or what is not accepted
 --     IsJudged g r e              the same of a certificate that was read, or of bytes that are none
 --     said_by converged text      what is said of a search: its report, and whether the interval is as narrow as was asked for
 --     IsTooLongSo g effort sizes e
 --                                 the text of a certificate that such a search may find is above its limit
---     Lacks held q                a name is missing where a request asks for it: a certificate behind texts with a ground problem alone
---     IsWritten .. s g e          a certificate that was found is held under its name, and its report is said
---     IsUnwritten .. e            the count of failed writes rose
 --     IsMeasured places seed g e  the report of the search that measures the program
---     Answers .. q e              the ending of a request by what the texts say, and the certificate behind them
+--     Exchange                    what was taken from the input, and the text of the answers that a server put
+--     IsSilent x                  no server was started: nothing was taken, and nothing answered
+--     Answered g x served replies
+--                                 a server put the lines of these replies, and no other, by what it took; each is sound, and a later one
+--                                 of a state is no wider
+--     Lacks held q                a name is missing where a request asks for it: a certificate behind texts with a ground problem alone
+--     IsWritten .. name Is e      a certificate that was found, of which this holds, is held under the name, and its report is said
+--     IsUnwritten .. e            the count of failed writes rose
+--     AnswersSearch .. s g Is e   either of these, or that the text of such a certificate is too long
+--     Answers .. q e              the ending of a request, but for a server, by what the texts say and the certificate behind them
 --     MayEndRequest .. q e        the same, or want of memory, or a failed read
---     MayEndWords .. asked e      words with this request, if any, may end so
+--     EndsBehind .. s g replies stop e
+--                                 the ending behind a server, by the fault that stopped it, if one did
+--     HasService .. x s e         a server was started behind texts with a ground problem, and this is the ending behind it
+--     ServiceFor .. x q e         the same of a request
+--     MayEndWords .. x asked e    words with this request, if any, may end so
 --     MayEndAs .. words .. status text
---                                 a run with these words may end with this status and this text
+--                                 a run with these words may end with this status, and put this text: answers, and the ending's
 --     Faults .. q                 a count of faults rose that such a request may raise
 --     OnlyWrites .. s             under the name of the certificate all is as it was, or the text of one that was found is held, or a
 --                                 write failed; no other name changes
@@ -23,8 +33,9 @@
 --                                 how often the shelf is asked
 -- Sources: for certificates, sub- and super-solutions of the Bellman equation (decision_process); for ground problems, grounding; for
 -- searches, BRTDP (McMahan, Likhachev and Gordon 2005).
-use Rattle.std.specs.Prelude.{◌≡◌, ◌≢◌, ◌+◌, ◌≤◌, ◌⊎◌, ℕ, Bool, if◌then◌else◌, List, ◌++◌, Option, Some, None, Result, Ok, Err}
+use Rattle.std.specs.Prelude.{◌≡◌, ◌≢◌, ◌+◌, ◌≤◌, ◌⊎◌, ℕ, Bool, if◌then◌else◌, List, [], ◌++◌, Option, Some, None, Result, Ok, Err}
 use Rattle.std.specs.Borrow.{Bor}
+use Rattle.std.specs.List.{AllByRecursion}
 use Rattle.shelf_io.specs.Causes.{Rose, RisesByOneAtMost}
 use Rattle.shelf_io.specs.Shelf.{Told, Missing, written}
 use Rattle.certificate.specs.Content.{Content}
@@ -32,6 +43,10 @@ use Rattle.certificate_check.specs.declared.verdict.Verdict.{Verdict}
 use Rattle.certificate_check.specs.Codes.{number_of, row_of}
 use Rattle.certificate_check.specs.Verdicts.{IsVerdict}
 use Rattle.ground_model.specs.Ground.{Ground}
+use Rattle.policy_server.specs.declared.served.Served.{Served}
+use Rattle.policy_server.specs.Replies.{Reply, FollowEach}
+use Rattle.policy_server.specs.Serving.{Input, HasAnswered}
+use Rattle.serving_solver.specs.Served.{IsSound}
 use Rattle.plan_request.specs.declared.effort.Effort.{Effort}
 use Rattle.plan_request.specs.declared.sizes.Sizes.{Sizes}
 use Rattle.plan_request.specs.Asked.{Sources, Solving, Asked, to_solve, to_check, to_serve, to_ground, to_bench}
@@ -39,6 +54,7 @@ use Rattle.plan_report.specs.Reports.{accepted_text, ground_text}
 use Rattle.plan_search.specs.declared.answer.Answer.{Answer}
 use Rattle.plan_search.specs.declared.measured.Measured.{Measured}
 use Rattle.plan_search.specs.Answers.{IsAnswerOf, IsMeasuredOf, IsTooLong}
+use Rattle.plan_search.specs.Serving.{stop_of, IsServiceOf}
 use Rattle.plan_stop.specs.declared.report.Report.{Report}
 use Rattle.plan_stop.specs.declared.report.Report.TheVariants.{Done, GapLeft}
 use Rattle.plan_stop.specs.declared.stop.Stop.{Stop}
@@ -84,6 +100,26 @@ module _ (places seed : ℕ) where
   abbrev pub AnswersBench : Ending → Type 0
   AnswersBench e = (r : Result Ground Stop) × (line_problem places seed ≡ r) × AnswersLine r e
 
+-- ---- what a server took and put
+
+pub record Exchange : Type 0 where
+  pub from : Input
+  pub to : Input
+  pub answers : List ℕ
+
+abbrev pub exchange : Input → Input → List ℕ → Exchange
+exchange from to answers = record { from = from; to = to; answers = answers }
+
+pub record IsSilent (x : Exchange) : Type 0 where
+  pub nothing_taken : x.to ≡ x.from
+  pub nothing_put : x.answers ≡ []
+
+-- as on a sink that held nothing
+pub record Answered (g : Ground) (x : Exchange) (served : Served) (replies : List Reply) : Type 0 where
+  pub answered : HasAnswered g x.from x.to (Some []) (Some x.answers) served replies
+  pub sound : AllByRecursion (IsSound g) replies
+  pub in_turn : FollowEach replies
+
 -- ---- by what a shelf holds
 
 module _ (held : List ℕ → Told) where
@@ -101,50 +137,46 @@ module _ (held : List ℕ → Told) where
   abbrev pub Lacks : Asked → Type 0
   Lacks (to_solve s) = LacksText held s.sources
   Lacks (to_check s name) = LacksText held s ⊎ ((held name ≡ Missing) × HasProblem s)
-  Lacks (to_serve s) = ⊥
+  Lacks (to_serve s) = LacksText held s.sources
   Lacks (to_ground s) = LacksText held s
   Lacks (to_bench places seed) = ⊥
 
 -- ---- by what a shelf held before and after, and by its count of failed writes
 
 module _ {S : Type 0} (held : S → List ℕ → Told) (writes : S → ℕ) (old new : S) where
-  pub record IsWritten (s : Solving) (g : Ground) (e : Ending) : Type 0 where
+  pub record IsWritten (name : List ℕ) (Is : Answer → Type 0) (e : Ending) : Type 0 where
     pub answer : Answer
-    pub is_answer : IsAnswerOf g s.effort s.sizes answer
-    pub holds : held new s.certificate ≡ written (held old s.certificate) answer.certificate
+    pub is_answer : Is answer
+    pub holds : held new name ≡ written (held old name) answer.certificate
     pub says : Ok (said_by answer.converged answer.report) ≡ e
 
   abbrev pub IsUnwritten : Ending → Type 0
   IsUnwritten e = (Err WriteFailed ≡ e) × Rose (writes old) (writes new)
 
+  abbrev pub AnswersSearch : Solving → Ground → (Answer → Type 0) → Ending → Type 0
+  AnswersSearch s g Is e = IsWritten s.certificate Is e ⊎ (IsTooLongSo g s.effort s.sizes e ⊎ IsUnwritten e)
+
   abbrev pub AnswersSolve : Solving → Result Ground Stop → Ending → Type 0
-  AnswersSolve s (Ok g) e = IsWritten s g e ⊎ (IsTooLongSo g s.effort s.sizes e ⊎ IsUnwritten e)
+  AnswersSolve s (Ok g) e = AnswersSearch s g (IsAnswerOf g s.effort s.sizes) e
   AnswersSolve s (Err stop) e = Err stop ≡ e
 
   abbrev pub Answers : Asked → Ending → Type 0
   Answers (to_solve s) e = (r : Result Ground Stop) × MayGiveProblem (held old) s.sources r × AnswersSolve s r e
   Answers (to_check s name) e = (r : Result Ground Stop) × MayGiveProblem (held old) s r × AnswersCheck (held old) name r e
-  Answers (to_serve s) e = ⊥
+  Answers (to_serve s) e = (stop : Stop) × MayGiveProblem (held old) s.sources (Err stop) × (Err stop ≡ e)
   Answers (to_ground s) e = (r : Result Ground Stop) × MayGiveProblem (held old) s r × (reported (held old) r ≡ e)
   Answers (to_bench places seed) e = AnswersBench places seed e
+
+  -- behind a server
+  abbrev pub EndsBehind : Solving → Ground → List Reply → Option Stop → Ending → Type 0
+  EndsBehind s g replies None e = AnswersSearch s g (IsServiceOf g s.effort s.sizes replies) e
+  EndsBehind s g replies (Some stop) e = Err stop ≡ e
 
 -- ---- by its counts of failed reads and writes too
 
 module _ {S : Type 0} (held : S → List ℕ → Told) (reads writes : S → ℕ) (old new : S) where
   abbrev pub MayEndRequest : Asked → Ending → Type 0
   MayEndRequest q e = MayEnd (IsFault reads old new (Lacks (held old) q)) (Answers held writes old new q) e
-
-  abbrev pub MayEndWords : Option Asked → Ending → Type 0
-  MayEndWords None e = (e ≡ Err BadWords) ⊎ (e ≡ Err NoMemory)
-  MayEndWords (Some q) e = MayEndRequest q e
-
-  -- a count rose that such a request may raise
-  abbrev pub Faults : Asked → Type 0
-  Faults (to_solve s) = Rose (reads old) (reads new) ⊎ Rose (writes old) (writes new)
-  Faults (to_check s name) = Rose (reads old) (reads new)
-  Faults (to_serve s) = Rose (reads old) (reads new) ⊎ Rose (writes old) (writes new)
-  Faults (to_ground s) = Rose (reads old) (reads new)
-  Faults (to_bench places seed) = Rose (reads old) (reads new)
 
   -- the name holds the text of a certificate that was found
   pub record IsHeld (s : Solving) : Type 0 where
@@ -172,13 +204,47 @@ module _ {S : Type 0} (held : S → List ℕ → Told) (reads writes : S → ℕ
   LeavesForWords None = OnlyRead held reads writes old new
   LeavesForWords (Some q) = Leaves q
 
-pub record MayEndAs {S : Type 0} (held : S → List ℕ → Told) (reads writes : S → ℕ) (words : List (Bor (List ℕ))) (old new : S) (status : ℕ) (text : List ℕ) : Type 0 where
-  pub ending : Ending
-  pub may_end : MayEndWords held reads writes old new (asked_by words) ending
-  pub status_is : status ≡ ending_status ending
-  pub text_is : text ≡ ending_text ending
+-- ---- by the input and the answers too
 
--- ---- by its count of calls
+module _ {S : Type 0} (held : S → List ℕ → Told) (reads writes : S → ℕ) (old new : S) (x : Exchange) where
+  pub record HasService (s : Solving) (e : Ending) : Type 0 where
+    pub g : Ground
+    pub problem : MayGiveProblem (held old) s.sources (Ok g)
+    pub served : Served
+    pub replies : List Reply
+    pub answered : Answered g x served replies
+    pub ends : (e ≡ Err NoMemory) ⊎ EndsBehind held writes old new s g replies (stop_of served.end) e
+
+  abbrev pub ServiceFor : Asked → Ending → Type 0
+  ServiceFor (to_solve s) e = ⊥
+  ServiceFor (to_check s name) e = ⊥
+  ServiceFor (to_serve s) e = HasService s e
+  ServiceFor (to_ground s) e = ⊥
+  ServiceFor (to_bench places seed) e = ⊥
+
+  abbrev pub MayEndWords : Option Asked → Ending → Type 0
+  MayEndWords None e = IsSilent x × ((e ≡ Err BadWords) ⊎ (e ≡ Err NoMemory))
+  MayEndWords (Some q) e = (IsSilent x × MayEndRequest held reads writes old new q e) ⊎ ServiceFor q e
+
+pub record MayEndAs {S : Type 0} (held : S → List ℕ → Told) (reads writes : S → ℕ) (words : List (Bor (List ℕ))) (old new : S)
+    (from to : Input) (status : ℕ) (text : List ℕ) : Type 0 where
+  pub answers : List ℕ
+  pub ending : Ending
+  pub may_end : MayEndWords held reads writes old new (exchange from to answers) (asked_by words) ending
+  pub status_is : status ≡ ending_status ending
+  pub text_is : text ≡ answers ++ ending_text ending
+
+-- ---- by counts of faults, of the shelf and of the source
+
+module _ {S I : Type 0} (reads writes : S → ℕ) (takes : I → ℕ) (old new : S) (from to : I) where
+  abbrev pub Faults : Asked → Type 0
+  Faults (to_solve s) = Rose (reads old) (reads new) ⊎ Rose (writes old) (writes new)
+  Faults (to_check s name) = Rose (reads old) (reads new)
+  Faults (to_serve s) = Rose (reads old) (reads new) ⊎ (Rose (writes old) (writes new) ⊎ Rose (takes from) (takes to))
+  Faults (to_ground s) = Rose (reads old) (reads new)
+  Faults (to_bench places seed) = Rose (reads old) (reads new)
+
+-- ---- by the shelf's count of calls
 
 module _ {S : Type 0} (held : S → List ℕ → Told) (calls : S → ℕ) (old new : S) where
   -- once for each text, and once more behind texts that have a problem

@@ -1,30 +1,20 @@
--- Worked examples, which compute: what words ask for, and what is said of a certificate and of a search.
-use Rattle.std.specs.Prelude.{◌≡◌, true, false, [], ◌∷◌, Some, None, Ok, Err, refl, codes}
+-- Worked examples, which compute: what is said of a certificate and of a search, and what stops a run behind a server.
+use Rattle.std.specs.Prelude.{◌≡◌, true, false, [], ◌∷◌, Some, None, Ok, Err, refl}
 use Rattle.certificate.specs.Content.{Content}
 use Rattle.certificate_check.specs.declared.verdict.Verdict.TheVariants.{Accepted, Lower, Ends}
-use Rattle.plan_request.specs.Asked.{to_serve, to_ground, to_bench}
 use Rattle.plan_stop.specs.declared.report.Report.TheVariants.{Done}
-use Rattle.plan_stop.specs.declared.stop.Stop.TheVariants.{NotAccepted}
+use Rattle.plan_stop.specs.declared.stop.Stop.TheVariants.{ReadFailed, NotAccepted}
 use Rattle.plan_report.specs.Reports.{accepted_text}
+use Rattle.plan_search.specs.Serving.{stop_of}
+use Rattle.policy_server.specs.declared.serve_end.ServeEnd.TheVariants as ends
 use Rattle.plan_stop.specs.Stop.{ending_status}
-use Rattle.plan_app.specs.Asking.{built}
-use Rattle.plan_app.specs.Measuring.{bench_effort, bench_sizes}
 use Rattle.plan_app.specs.Endings.{said_of, said_by}
 
-ground_is_built : built (to_ground (record { domain = codes "coin"; problem = None; penalty = None; step_cost = 0 }))
-    ≡ Some (to_ground (record { domain = codes "coin"; problem = None; penalty = None; step_cost = 0 }))
-ground_is_built = refl
+a_failed_read_stops_behind_a_server : stop_of ends.ReadFault ≡ Some ReadFailed
+a_failed_read_stops_behind_a_server = refl
 
-bench_is_built : built (to_bench 2 4) ≡ Some (to_bench 2 4)
-bench_is_built = refl
-
-serve_asks_for_nothing : built (to_serve (record {
-  sources = record { domain = codes "coin"; problem = None; penalty = None; step_cost = 0 };
-  certificate = codes "c";
-  effort = bench_effort 1;
-  sizes = bench_sizes;
-})) ≡ None
-serve_asks_for_nothing = refl
+a_long_line_stops_no_search : stop_of ends.LongLine ≡ None
+a_long_line_stops_no_search = refl
 
 converged_is_zero : ending_status (Ok (said_by true [])) ≡ 0
 converged_is_zero = refl

@@ -7,13 +7,17 @@
 --                                   a certificate was found for the ground problem of the texts, which encloses the cost of their task,
 --                                   and the status says whether its interval is as narrow as was asked for
 --     report_of found               the report of such a search
---     PutsSolution s t status now old new
---                                   the certificate that was found is held now, where it is accepted, and the report was put
+--     PutsSolution s t status now answers old new
+--                                   the certificate that was found is held now, where it is accepted, and the report was put behind these
+--                                   answers, which are none but those of a server
+--     PutsService s t status now from to old new
+--                                   the same behind the answers to all queries that the input completes, up to the 100,000th and to the
+--                                   first line that is too long; the certificate is no wider at a state than any answer that told of it
 --     PutsMeasure places seed status old new
 --                                   the line of places was solved so, and the report was put
 -- Sources: plain rounded iteration is value iteration from both sides; penalties for dead ends are those of Kolobov, Mausam and Weld
 -- (2012), and the interval is that of BRTDP (McMahan, Likhachev and Gordon 2005).
-use Rattle.std.specs.Prelude.{◌≡◌, ◌↔◌, ℕ, ◌+◌, ◌*◌, ◌<◌, ◌≤◌, List, ◌++◌, Option, Ok}
+use Rattle.std.specs.Prelude.{◌≡◌, ◌↔◌, ℕ, ◌+◌, ◌*◌, ◌<◌, ◌≤◌, List, ◌++◌, Option, None, Ok}
 use Rattle.std.specs.Io.KnownBytes.{Appends}
 use Rattle.shelf_io.specs.Shelf.{Told, Holds}
 use Rattle.sweep_levels.specs.Sweeps.{rounds_at}
@@ -35,11 +39,16 @@ use Rattle.plan_request.specs.declared.sizes.Sizes.{Sizes}
 use Rattle.plan_request.specs.Asked.{Sources, Solving}
 use Rattle.plan_report.specs.Solved.{Solved, solve_text}
 use Rattle.plan_search.specs.Found.{IsFound}
+use Rattle.plan_search.specs.Serving.{stop_of, KeepsEach}
+use Rattle.policy_server.specs.declared.served.Served.{Served}
+use Rattle.policy_server.specs.Replies.{Reply}
+use Rattle.policy_server.specs.Serving.{Input}
 use Rattle.plan_stop.specs.declared.status.TheConstants.{DONE}
 use Rattle.plan_sources.specs.declared.texts.Texts.{Texts}
 use Rattle.plan_sources.specs.Problems.{one_text, problem_of}
 use Rattle.plan_sources.specs.Laws.{StandsForTexts}
 use Rattle.plan_report.specs.Line.{line_text}
+use Rattle.plan_app.specs.Endings.{Answered, exchange}
 use Rattle.plan_app.specs.Measuring.{line_sources, bench_effort, bench_sizes, bench_line}
 use Rattle.plan_app.specs.Verdicts.{IsAccepted}
 
@@ -80,11 +89,20 @@ module _ {s : Sources} {t : Texts} {effort : Effort} {sizes : Sizes} {status : �
   abbrev pub report_of : Solves s t effort sizes status → List ℕ
   report_of found = solve_text found.g (ground_certificate found.g found.c).rows found.summary
 
-pub record PutsSolution (s : Solving) (t : Texts) (status : ℕ) (now : Told) (old new : Option (List ℕ)) : Type 0 where
+pub record PutsSolution (s : Solving) (t : Texts) (status : ℕ) (now : Told) (answers : List ℕ) (old new : Option (List ℕ)) : Type 0 where
   pub solves : Solves s.sources t s.effort s.sizes status
   pub holds : now ≡ Holds (text_of solves.c)
   pub accepted : IsAccepted s.sources t (text_of solves.c)
-  pub put : Appends old new (report_of solves)
+  pub put : Appends old new (answers ++ report_of solves)
+
+pub record PutsService (s : Solving) (t : Texts) (status : ℕ) (now : Told) (from to : Input) (old new : Option (List ℕ)) : Type 0 where
+  pub answers : List ℕ
+  pub solution : PutsSolution s t status now answers old new
+  pub served : Served
+  pub replies : List Reply
+  pub answered : Answered solution.solves.g (exchange from to answers) served replies
+  pub no_fault : stop_of served.end ≡ None
+  pub kept : KeepsEach solution.solves.g solution.solves.c replies
 
 pub record PutsMeasure (places seed : ℕ) (status : ℕ) (old new : Option (List ℕ)) : Type 0 where
   pub solves : Solves line_sources (one_text (line_text places seed)) (bench_effort seed) bench_sizes status

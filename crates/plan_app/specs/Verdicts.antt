@@ -2,14 +2,15 @@
 --     TellsTexts words held s t     the words ask for something over the texts t, which the shelf tells
 --     TellsGround words held s t    they ask for their ground problem
 --     TellsCheck words held s t f   they ask for the check of the bytes f, which it tells too
---     TellsSolve words held s t     they ask to solve it, and something is told of the name of the certificate
+--     TellsSearch words held command s t
+--                                   they ask by this command to solve it, and something is told of the name of the certificate
 --     HasVerdict status             the status speaks of the words or of bytes, and not of a fault or of memory
 --     HasReport status              a search ended, and its report was put
 --     answers_to q, IsAnswerTo q status
 --                                   the statuses of a request that meets no fault; 5 is want of memory
 --     IsRefused, IsLimited, IsGrounded s t
 --                                   the texts are outside the language; a quantity is above its limit; they have a ground problem
---     MayBeTooLong words t          the words ask to solve it, and the text of a certificate that may be found is above its limit
+--     MayBeTooLong words t          they ask to solve it, with a server or without, and the text of a certificate that may be found is above its limit
 --     IsDecoded f c                 f is the text of the certificate c, of at most its version's greatest length
 --     IsAccepted, IsRejected s t f  f is, or is not, the text of a certificate that is balanced for the ground problem of the texts
 --     PutsProblem s t old new       the report of the ground problem was put, which stands for the task of the texts
@@ -38,7 +39,7 @@ use Rattle.plan_stop.specs.declared.stop.Stop.TheVariants.{Refused, Limit}
 use Rattle.plan_sources.specs.declared.texts.Texts.{Texts}
 use Rattle.plan_sources.specs.Problems.{problem_of}
 use Rattle.plan_sources.specs.Laws.{HoldsTexts, StandsForTexts}
-use Rattle.plan_app.specs.Asking.{Asks}
+use Rattle.plan_app.specs.Asking.{Asks, AsksToSearch}
 
 -- ---- what is asked and told
 
@@ -66,9 +67,9 @@ module _ (words : List (Bor (List ℕ))) (held : List ℕ → Told) (s : Sources
     pub texts : HoldsTexts held s t
     pub certificate : held name ≡ Holds f
 
-module _ (words : List (Bor (List ℕ))) (held : List ℕ → Told) (s : Solving) (t : Texts) where
-  pub record TellsSolve : Type 0 where
-    pub asks : Asks words (to_solve s)
+module _ (words : List (Bor (List ℕ))) (held : List ℕ → Told) (command : Solving → Asked) (s : Solving) (t : Texts) where
+  pub record TellsSearch : Type 0 where
+    pub asks : Asks words (command s)
     pub texts : HoldsTexts held s.sources t
     pub certificate : held s.certificate ≢ Untold
 
@@ -112,7 +113,7 @@ module _ (s : Sources) (t : Texts) where
 
 pub record MayBeTooLong (words : List (Bor (List ℕ))) (t : Texts) : Type 0 where
   pub solving : Solving
-  pub asks : Asks words (to_solve solving)
+  pub asks : AsksToSearch words solving
   pub g : Ground
   pub problem : problem_of solving.sources t ≡ Ok g
   pub stop : Stop

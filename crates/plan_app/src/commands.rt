@@ -1,35 +1,50 @@
 //! The commands, from a request to its report or to what stops it.
 
-ghost use Rattle.std.specs.Prelude.{Some};
+ghost use Rattle.std.specs.Prelude.{◌≡◌, ◌⊎◌, Some, Err};
+ghost use Rattle.shelf_io.specs.Causes.{Rose};
+ghost use Rattle.policy_server.specs.Serving.{input};
 ghost use Rattle.plan_request.specs.Asked.{to_check, to_ground};
 ghost use Rattle.plan_request.specs.Laws.{AreTerms, IsInRange};
 ghost use Rattle.plan_request.specs.Shown.{shown_sources, shown_request};
 ghost use Rattle.plan_sources.specs.Endings.{OnlyRead};
-ghost use Rattle.plan_app.specs.Asking.{asked_by, built};
-ghost use Rattle.plan_app.specs.Endings.{MayEndRequest, MayEndWords, CallsFor, CallsForWords};
-ghost use Rattle.plan_app.specs.Endings.{LeavesForWords};
+ghost use Rattle.plan_stop.specs.declared.stop.Stop.TheVariants.{WriteFailed};
+ghost use Rattle.plan_app.specs.Asking.{asked_by, IsToServe};
+ghost use Rattle.plan_app.specs.Endings.{MayEndRequest, CallsFor, CallsForWords};
+ghost use Rattle.plan_app.specs.Endings.{Leaves, LeavesForWords};
+ghost use Rattle.plan_app.specs.Putting.{PutsAnswers, CountsOn};
 
 use crate::benching::bench;
 use crate::judging::judge;
+use crate::serving::serve;
 use crate::solving::solve;
 use plan_report::ground_report;
 use plan_request::{Request, Sources, request_laws, request_of};
 use plan_sources::{certificate_of, problem_of};
 use plan_stop::{Report, Stop};
-use shelf_io::{Gate, Shelf};
+use shelf_io::{Gate, Shelf, Sink, Source};
 use std::alloc::Global;
 use std::thread::Threads;
 
-/// The report that these words ask for, or what stops the run.
-pub(crate) fn report_of<R: Threads + Sync, S: Shelf, G: Gate>(
+/// The report that these words ask for, or what stops the run. Under `serve` queries are answered before.
+pub(crate) fn report_of<R: Threads + Sync, S: Shelf, I: Source, O: Sink, G: Gate>(
     rt: &R,
     alloc: Global,
     words: &[&str],
     shelf: &mut S,
+    source: &mut I,
+    out: &mut O,
     gate: &G,
 ) -> Result<Report, Stop>
-    ensures ends { MayEndWords S.held S.read_faults S.write_faults shelf.old shelf.new
-        (asked_by words.now) result }
+    ensures ends { let from = input I.left I.ends I.faults source.old
+        in let to = input I.left I.ends I.faults source.new
+        in PutsAnswers S.held S.read_faults S.write_faults shelf.old shelf.new from to
+        (O.taken out.old) (O.taken out.new) (asked_by words.now) result }
+    ensures silent { IsToServe (asked_by words.now)
+        ⊎ ((source.new ≡ source.old) × (out.new ≡ out.old)) }
+    ensures write_failed { IsToServe (asked_by words.now) → result ≡ Err WriteFailed
+        → Rose (O.faults out.old) (O.faults out.new)
+        ⊎ Rose (S.write_faults shelf.old) (S.write_faults shelf.new) }
+    ensures counts { CountsOn (O.faults out.old) (O.faults out.new) }
     ensures calls { CallsForWords S.held S.calls shelf.old shelf.new (asked_by words.now) }
     ensures shelf { LeavesForWords S.held S.read_faults S.write_faults shelf.old shelf.new
         (asked_by words.now) }
@@ -37,26 +52,35 @@ pub(crate) fn report_of<R: Threads + Sync, S: Shelf, G: Gate>(
     request_laws();
     match request_of(alloc, words) {
         Ok(None) => Err(Stop::BadWords),
-        Ok(Some(request)) => answer(rt, alloc, &request, shelf, gate),
+        Ok(Some(request)) => answer(rt, alloc, &request, shelf, source, out, gate),
         Err(_) => Err(Stop::NoMemory),
     }
 }
 
-/// The report of a request, or what stops it. Commands that are not built yet have no request.
-fn answer<R: Threads + Sync, S: Shelf, G: Gate>(
+/// The report of a request, or what stops it. Under `serve` queries are answered before.
+fn answer<R: Threads + Sync, S: Shelf, I: Source, O: Sink, G: Gate>(
     rt: &R,
     alloc: Global,
     request: &Request<'_>,
     shelf: &mut S,
+    source: &mut I,
+    out: &mut O,
     gate: &G,
 ) -> Result<Report, Stop>
     requires { IsInRange (shown_request request.now) }
-    ensures ends { MayEndWords S.held S.read_faults S.write_faults shelf.old shelf.new
-        (built (shown_request request.now)) result }
-    ensures calls { CallsForWords S.held S.calls shelf.old shelf.new
-        (built (shown_request request.now)) }
-    ensures shelf { LeavesForWords S.held S.read_faults S.write_faults shelf.old shelf.new
-        (built (shown_request request.now)) }
+    ensures ends { let from = input I.left I.ends I.faults source.old
+        in let to = input I.left I.ends I.faults source.new
+        in PutsAnswers S.held S.read_faults S.write_faults shelf.old shelf.new from to
+        (O.taken out.old) (O.taken out.new) (Some (shown_request request.now)) result }
+    ensures silent { IsToServe (Some (shown_request request.now))
+        ⊎ ((source.new ≡ source.old) × (out.new ≡ out.old)) }
+    ensures write_failed { IsToServe (Some (shown_request request.now)) → result ≡ Err WriteFailed
+        → Rose (O.faults out.old) (O.faults out.new)
+        ⊎ Rose (S.write_faults shelf.old) (S.write_faults shelf.new) }
+    ensures counts { CountsOn (O.faults out.old) (O.faults out.new) }
+    ensures calls { CallsFor S.held S.calls shelf.old shelf.new (shown_request request.now) }
+    ensures shelf { Leaves S.held S.read_faults S.write_faults shelf.old shelf.new
+        (shown_request request.now) }
 {
     match request {
         Request::Solve(solving) => solve(rt, alloc, solving, shelf, gate),
@@ -64,7 +88,7 @@ fn answer<R: Threads + Sync, S: Shelf, G: Gate>(
             sources,
             certificate,
         } => check(alloc, sources, certificate, shelf),
-        Request::Serve(_) => Err(Stop::BadWords),
+        Request::Serve(solving) => serve(rt, alloc, solving, shelf, source, out, gate),
         Request::Ground(sources) => ground(alloc, sources, shelf),
         Request::Bench { places, seed } => bench(rt, alloc, *places, *seed, gate),
     }

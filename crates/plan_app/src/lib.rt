@@ -5,6 +5,7 @@ mod benching;
 mod commands;
 mod judging;
 mod program;
+mod serving;
 mod solving;
 
 pub use program::run;

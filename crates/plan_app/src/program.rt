@@ -1,6 +1,6 @@
 //! The top call: all that the program does.
 
-ghost use Rattle.std.specs.Prelude.{◌≡◌, ◌≢◌, ◌⊎◌, ◌↔◌, ℕ, List, Err};
+ghost use Rattle.std.specs.Prelude.{◌≡◌, ◌≢◌, ◌⊎◌, ◌↔◌, ℕ, List, [], Err};
 ghost use Rattle.std.specs.Io.KnownBytes.{Appends};
 ghost use Rattle.shelf_io.specs.Causes.{Rose};
 ghost use Rattle.shelf_io.specs.Streams.{PutsPrefix};
@@ -8,15 +8,16 @@ ghost use Rattle.plan_stop.specs.declared.status.TheConstants.{DONE, BAD_WORDS, 
 ghost use Rattle.plan_stop.specs.declared.status.TheConstants.{WRITE_FAILED, NO_MEMORY, REFUSED};
 ghost use Rattle.plan_stop.specs.declared.status.TheConstants.{NOT_ACCEPTED, LIMIT};
 ghost use Rattle.plan_stop.specs.declared.stop.Stop.TheVariants.{WriteFailed};
-ghost use Rattle.plan_request.specs.Asked.{Asked, Sources, Solving, to_solve, to_bench};
+ghost use Rattle.policy_server.specs.Serving.{input};
+ghost use Rattle.plan_request.specs.Asked.{Asked, Sources, Solving, to_solve, to_serve, to_bench};
 ghost use Rattle.plan_sources.specs.declared.texts.Texts.{Texts};
-ghost use Rattle.plan_app.specs.Asking.{asked_by, Asks, AsksNothing};
+ghost use Rattle.plan_app.specs.Asking.{asked_by, Asks, AsksNothing, AsksToSearch, AsksToServe};
 ghost use Rattle.plan_app.specs.Endings.{Lacks, Faults, MayEndAs, LeavesForWords, CallsForWords};
-ghost use Rattle.plan_app.specs.Verdicts.{TellsTexts, TellsGround, TellsCheck, TellsSolve};
+ghost use Rattle.plan_app.specs.Verdicts.{TellsTexts, TellsGround, TellsCheck, TellsSearch};
 ghost use Rattle.plan_app.specs.Verdicts.{HasVerdict, HasReport, IsAnswerTo};
 ghost use Rattle.plan_app.specs.Verdicts.{IsRefused, IsLimited, IsGrounded, IsAccepted, IsRejected};
 ghost use Rattle.plan_app.specs.Verdicts.{MayBeTooLong, PutsProblem, PutsReport};
-ghost use Rattle.plan_app.specs.Solutions.{PutsSolution, PutsMeasure};
+ghost use Rattle.plan_app.specs.Solutions.{PutsSolution, PutsService, PutsMeasure};
 ghost use Rattle.plan_app.specs.Putting.{PutsPart, SaysPut, SaysCutShort};
 
 use crate::commands::report_of;
@@ -35,23 +36,30 @@ use task_certificates::task_certificate_laws;
 
 /// Runs the program with the words behind its name, and answers its status.
 ///
-/// `check`, `ground` and `bench` change nothing on the shelf; `solve` changes the name of its certificate
-/// alone. The input is left alone.
+/// `check`, `ground` and `bench` change nothing on the shelf; `solve` and `serve` change the name of their
+/// certificate alone. Under `serve` alone something is taken from the source.
 pub fn run<R: Threads + Sync, S: Shelf, I: Source + Send, O: Sink + Send, G: Gate>(
     rt: &R,
     alloc: Global,
     words: &[&str],
     shelf: &mut S,
-    input: &mut I,
+    source: &mut I,
     out: &mut O,
     gate: &G,
 ) -> u8
-    // How a run ends: the whole text of its ending is put, or after 4 at most a first part of it.
-    ensures ends { result ≢ WRITE_FAILED → (text : List ℕ)
-        × MayEndAs S.held S.read_faults S.write_faults words.now shelf.old shelf.new result text
+    // How a run ends: the answers of a server and the whole text of the ending are put, or after 4 at most
+    // a first part. There are no answers but under `serve`.
+    ensures ends { let from = input I.left I.ends I.faults source.old
+        in let to = input I.left I.ends I.faults source.new
+        in result ≢ WRITE_FAILED → (text : List ℕ)
+        × MayEndAs S.held S.read_faults S.write_faults words.now shelf.old shelf.new from to
+        result text
         × Appends (O.taken out.old) (O.taken out.new) text }
-    ensures cut_short { result ≡ WRITE_FAILED → (status : ℕ) × (text : List ℕ)
-        × MayEndAs S.held S.read_faults S.write_faults words.now shelf.old shelf.new status text
+    ensures cut_short { let from = input I.left I.ends I.faults source.old
+        in let to = input I.left I.ends I.faults source.new
+        in result ≡ WRITE_FAILED → (status : ℕ) × (text : List ℕ)
+        × MayEndAs S.held S.read_faults S.write_faults words.now shelf.old shelf.new from to
+        status text
         × PutsPart (O.taken out.old) (O.taken out.new) status text }
 
     // Where the status is none of 3, 4 and 5, it is what the words and the bytes say.
@@ -83,32 +91,47 @@ pub fn run<R: Threads + Sync, S: Shelf, I: Source + Send, O: Sink + Send, G: Gat
 
     // The certificate that was written is one that `check` accepts. It is as narrow as plain rounded iteration
     // makes the interval in so many rounds, and wider than was asked for only where that is too.
-    ensures solves { (s : Solving) (t : Texts) → TellsSolve words.now (S.held shelf.old) s t
-        → HasReport result → PutsSolution s t result (S.held shelf.new s.certificate)
+    ensures solves { (s : Solving) (t : Texts)
+        → TellsSearch words.now (S.held shelf.old) to_solve s t
+        → HasReport result → PutsSolution s t result (S.held shelf.new s.certificate) []
+        (O.taken out.old) (O.taken out.new) }
+    // Under `serve` the same, behind the answers to all queries, none of which is narrower than the certificate.
+    ensures serves { (s : Solving) (t : Texts)
+        → TellsSearch words.now (S.held shelf.old) to_serve s t
+        → HasReport result → let from = input I.left I.ends I.faults source.old
+        in let to = input I.left I.ends I.faults source.new
+        in PutsService s t result (S.held shelf.new s.certificate) from to
         (O.taken out.old) (O.taken out.new) }
     ensures measures { (places seed : ℕ) → Asks words.now (to_bench places seed)
         → HasReport result → PutsMeasure places seed result (O.taken out.old) (O.taken out.new) }
 
-    // When 3 and 4 come. Want of memory, 5, is free, and puts nothing.
+    // When 3 and 4 come.
     ensures read_failed { result ≡ READ_FAILED
         → ((q : Asked) × Asks words.now q × Lacks (S.held shelf.old) q)
-        ⊎ Rose (S.read_faults shelf.old) (S.read_faults shelf.new) }
+        ⊎ (Rose (S.read_faults shelf.old) (S.read_faults shelf.new)
+        ⊎ (AsksToServe words.now × Rose (I.faults source.old) (I.faults source.new))) }
     ensures write_failed { result ≡ WRITE_FAILED → Rose (O.faults out.old) (O.faults out.new)
-        ⊎ ((s : Solving) × Asks words.now (to_solve s)
+        ⊎ ((s : Solving) × AsksToSearch words.now s
         × Rose (S.write_faults shelf.old) (S.write_faults shelf.new)) }
-    ensures memory { result ≡ NO_MEMORY → O.taken out.new ≡ O.taken out.old }
+
+    // Want of memory, 5, is free. It puts nothing, and nor does a certificate that was not written; but the
+    // answers of a server may stand.
+    ensures memory { result ≡ NO_MEMORY → AsksToServe words.now
+        ⊎ (O.taken out.new ≡ O.taken out.old) }
+    ensures unwritten { result ≡ WRITE_FAILED → AsksToServe words.now
+        ⊎ (Rose (O.faults out.old) (O.faults out.new) ⊎ (O.taken out.new ≡ O.taken out.old)) }
 
     // A request has an answer where no fault came and no name is missing.
     ensures answered { (q : Asked) → Asks words.now q
         → ¬ Lacks (S.held shelf.old) q
-        → ¬ Faults S.held S.read_faults S.write_faults shelf.old shelf.new q
+        → ¬ Faults S.read_faults S.write_faults I.faults shelf.old shelf.new source.old source.new q
         → ¬ Rose (O.faults out.old) (O.faults out.new) → IsAnswerTo q result }
 
     // How often the shelf is asked, and what stays.
     ensures calls { CallsForWords S.held S.calls shelf.old shelf.new (asked_by words.now) }
     ensures shelf { LeavesForWords S.held S.read_faults S.write_faults shelf.old shelf.new
         (asked_by words.now) }
-    ensures source { input.new ≡ input.old }
+    ensures source { AsksToServe words.now ⊎ (source.new ≡ source.old) }
 {
     // The laws on which the clauses rest.
     request_laws();
@@ -120,7 +143,7 @@ pub fn run<R: Threads + Sync, S: Shelf, I: Source + Send, O: Sink + Send, G: Gat
     same_level_laws();
     task_certificate_laws();
     task_progress_laws();
-    let ending = report_of(rt, alloc, words, shelf, gate);
+    let ending = report_of(rt, alloc, words, shelf, source, out, gate);
     put_ending(alloc, out, ending)
 }
 
@@ -133,6 +156,7 @@ fn put_ending<O: Sink>(alloc: Global, out: &mut O, ending: Result<Report, Stop>)
     ensures memory { result ≡ NO_MEMORY → O.taken out.new ≡ O.taken out.old }
     ensures write_failed { result ≡ WRITE_FAILED
         → Rose (O.faults out.old) (O.faults out.new) ⊎ (ending ≡ Err WriteFailed) }
+    ensures unwritten { ending ≡ Err WriteFailed → out.new ≡ out.old }
 {
     match ending {
         Ok(report) => put(out, report.text(), report.status()),

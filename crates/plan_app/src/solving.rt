@@ -41,7 +41,12 @@ pub(crate) fn solve<R: Threads + Sync, S: Shelf, G: Gate>(
 }
 
 /// Writes the certificate under a name, and answers the report.
-fn write<S: Shelf>(alloc: Global, name: &str, answer: Answer, shelf: &mut S) -> Result<Report, Stop>
+pub(crate) fn write<S: Shelf>(
+    alloc: Global,
+    name: &str,
+    answer: Answer,
+    shelf: &mut S,
+) -> Result<Report, Stop>
     ensures report { IfOk result (λ report. report ≡ said_by answer.converged answer.report) }
     ensures written { IfOk result (λ _. S.held shelf.new name.now
         ≡ written (S.held shelf.old name.now) answer.certificate) }

@@ -2,9 +2,11 @@
 
 mod calls;
 mod certificates;
+mod effects;
 mod limits;
 mod runs;
 mod searches;
+mod served;
 mod texts;
 
 use crate::run;

@@ -2,12 +2,12 @@
 //! answer.
 #![tactic(auto)]
 
-ghost use Rattle.std.specs.Prelude.{◌≡◌, ◌≢◌, ◌⊎◌, ◌↔◌, map, Some, None, IfOk, string_bytes};
+ghost use Rattle.std.specs.Prelude.{◌≡◌, ◌≢◌, ◌⊎◌, ◌↔◌, map, None, IfOk, string_bytes};
 ghost use Rattle.shelf_io.specs.Causes.{Rose};
 ghost use Rattle.plan_stop.specs.declared.status.TheConstants.{BAD_WORDS, WRITE_FAILED};
 ghost use Rattle.plan_stop.specs.declared.status.TheConstants.{NO_MEMORY};
-ghost use Rattle.plan_request.specs.Asked.{Solving, to_solve};
-ghost use Rattle.plan_app.specs.Asking.{asked_of};
+ghost use Rattle.plan_request.specs.Asked.{Solving, request_of};
+ghost use Rattle.plan_app.specs.Asking.{IsToSearch, IsToServe};
 ghost use Rattle.plan_app.specs.Endings.{LeavesForWords};
 
 use plan_app::run;
@@ -15,7 +15,7 @@ use plan_stop::NO_MEMORY;
 use shelf_io::{FolderShelf, FreeGate, InputSource, OutputSink, Shelf, Sink, Source};
 use std::alloc::{AllocError, Global};
 use std::env;
-use std::io::ErrorKind;
+use std::io::{BufReader, ErrorKind};
 use std::process::ExitCode;
 use std::thread::Threads;
 
@@ -24,15 +24,19 @@ fn main(rt: HostRuntime) -> ExitCode {
         Ok(words) => words,
         Err(_) => return ExitCode::from(NO_MEMORY),
     };
+    let Ok(reader) = BufReader::new(rt.alloc(), rt.stdin()) else {
+        return ExitCode::from(NO_MEMORY);
+    };
     let mut shelf = FolderShelf::make(&rt);
-    let mut input = InputSource::make(rt.stdin());
+    let mut source = InputSource::make(reader);
+    // Standard output holds nothing back: each answer is seen as it is put.
     let mut out = OutputSink::make(rt.stdout());
     let status = run_with(
         &rt,
         rt.alloc(),
         words.as_slice(),
         &mut shelf,
-        &mut input,
+        &mut source,
         &mut out,
     );
     ExitCode::from(status)
@@ -53,21 +57,23 @@ fn run_with<R: Threads + Sync, S: Shelf, I: Source + Send, O: Sink + Send>(
     alloc: Global,
     words: &[String],
     shelf: &mut S,
-    input: &mut I,
+    source: &mut I,
     out: &mut O,
 ) -> u8
     ensures bad_words { result ≢ WRITE_FAILED → result ≢ NO_MEMORY
-        → (result ≡ BAD_WORDS) ↔ (asked_of (map string_bytes words.now) ≡ None) }
+        → (result ≡ BAD_WORDS) ↔ (request_of (map string_bytes words.now) ≡ None) }
     ensures write_failed { result ≡ WRITE_FAILED → Rose (O.faults out.old) (O.faults out.new)
-        ⊎ ((s : Solving) × (asked_of (map string_bytes words.now) ≡ Some (to_solve s))
+        ⊎ ((s : Solving) × IsToSearch (request_of (map string_bytes words.now)) s
         × Rose (S.write_faults shelf.old) (S.write_faults shelf.new)) }
-    ensures memory { result ≡ NO_MEMORY → O.taken out.new ≡ O.taken out.old }
+    ensures memory { result ≡ NO_MEMORY → IsToServe (request_of (map string_bytes words.now))
+        ⊎ (O.taken out.new ≡ O.taken out.old) }
     ensures shelf { LeavesForWords S.held S.read_faults S.write_faults shelf.old shelf.new
-        (asked_of (map string_bytes words.now)) }
-    ensures source { input.new ≡ input.old }
+        (request_of (map string_bytes words.now)) }
+    ensures source { IsToServe (request_of (map string_bytes words.now))
+        ⊎ (source.new ≡ source.old) }
 {
     match lent(alloc, words) {
-        Ok(words) => run(rt, alloc, words.as_slice(), shelf, input, out, &FreeGate),
+        Ok(words) => run(rt, alloc, words.as_slice(), shelf, source, out, &FreeGate),
         Err(_) => NO_MEMORY,
     }
 }

@@ -68,49 +68,83 @@ fn words(rt: HostRuntime) -> Result<(), Fail> {
     Ok(())
 }
 
-/// Coins outside the language, under `ground`.
+/// The coin's problem.
+const TOSS: &str = "(define (problem toss)
+  (:domain coin)
+  (:init)
+  (:goal (done))
+  (:goal-reward 10)
+  (:metric maximize (reward)))
+";
+
+/// Parentheses that are nested too deeply.
+const DEEP: &str =
+    "((((((((((((((((((((((((((((((((((((((((((((((((((((((((((((((((((((((((((((((((((((((((((((((((((((";
+
+/// Coins outside the language: what stands in place of what, the code, and its line.
+const REFUSED: [(&str, &str, u32, u32); 20] = [
+    ("(:init)", "(:init) \x7f", 1, 8),
+    ("(reward)))", "(reward))))", 2, 11),
+    ("(:goal (done))", DEEP, 3, 9),
+    ("(:goal (done))", "(:goal)", 4, 9),
+    ("(:goal (done))", "(:goal (won))", 5, 9),
+    ("(:predicates (done))", "(:predicates (done ?x))", 6, 5),
+    // A constant of another type.
+    (
+        "(:predicates (done))\n  (:action flip",
+        "(:types a b) (:constants k - b) (:predicates (done ?x - a))\n  (:action flip :precondition (done k)",
+        7,
+        4,
+    ),
+    ("0.5", "1.5", 8, 5),
+    ("0.5 (done)", "0.6 (done) 0.5 (not (done))", 9, 5),
+    ("maximize", "minimize", 10, 11),
+    ("0.5", "1/0", 11, 5),
+    ("0.5", "0.1234567890", 11, 5),
+    ("(:goal-reward 10)", "(:goal-reward 0)", 11, 10),
+    // A problem before any domain, and no problem.
+    ("(define (domain", "(define (problem", 12, 1),
+    (TOSS, "", 13, 6),
+    ("(:init)", "(:init) (:init)", 14, 8),
+    ("(:domain coin)", "(:domain dice)", 15, 7),
+    // Types that are each other's parents.
+    (
+        "  (:requirements",
+        "  (:types a - b b - a)\n  (:requirements",
+        16,
+        2,
+    ),
+    // An action that costs nothing.
+    (
+        "  (:action flip",
+        "  (:action wait)\n  (:action flip",
+        17,
+        4,
+    ),
+    ("(:goal-reward 10)", "", 18, 6),
+];
+
+/// Each is refused under `ground`, as the first text and as the second one behind a blank one.
 #[test]
 fn refused_coins(rt: HostRuntime) -> Result<(), Fail> {
-    let deep =
-        "((((((((((((((((((((((((((((((((((((((((((((((((((((((((((((((((((((((((((((((((((((((((((((((((((((";
-    let rows: [(&str, &str, &str); 12] = [
-        (
-            "0.5 (done)",
-            "0.6 (done) 0.5 (not (done))",
-            "refused 9 1:5\n",
-        ),
-        ("0.5", "1/0", "refused 11 1:5\n"),
-        ("0.5", "0.1234567890", "refused 11 1:5\n"),
-        ("0.5", "1.5", "refused 8 1:5\n"),
-        // An action that costs nothing.
-        (
-            "  (:action flip",
-            "  (:action wait)\n  (:action flip",
-            "refused 17 1:4\n",
-        ),
-        // Types that are each other's parents.
-        (
-            "  (:requirements",
-            "  (:types a - b b - a)\n  (:requirements",
-            "refused 16 1:2\n",
-        ),
-        // 101 open parentheses.
-        ("(:goal (done))", deep, "refused 3 1:9\n"),
-        ("(:goal-reward 10)", "", "refused 18 1:6\n"),
-        // A byte that is not allowed; a goal without a condition; what is not in the language; another domain.
-        ("(:init)", "(:init) \x7f", "refused 1 1:8\n"),
-        ("(:goal (done))", "(:goal)", "refused 4 1:9\n"),
-        ("maximize", "minimize", "refused 10 1:11\n"),
-        ("(:domain coin)", "(:domain dice)", "refused 15 1:7\n"),
-    ];
-    for (old, new, text) in rows {
-        let coin = edited(rt.alloc(), COIN, &[(old, new)])?;
-        let setting = Setting {
+    let alloc = rt.alloc();
+    for (old, new, code, line) in REFUSED {
+        let coin = edited(alloc, COIN, &[(old, new)])?;
+        let files: [(&str, &[u8]); 2] = [("coin", coin.as_str().as_bytes()), ("blank", b"\n")];
+        let alone = Setting {
             words: &["ground", "coin"],
-            files: &[("coin", coin.as_str().as_bytes())],
+            files: &files,
             failing: (0, 0),
         };
-        check_run(&rt, rt.alloc(), &setting, (6, text))?;
+        let wanted = format!(in alloc; "refused {code} 1:{line}\n")?;
+        check_run(&rt, alloc, &alone, (6, wanted.as_str()))?;
+        let second = Setting {
+            words: &["ground", "blank", "--problem", "coin"],
+            files: &files,
+            failing: (0, 0),
+        };
+        let wanted = format!(in alloc; "refused {code} 2:{line}\n")?;
+        check_run(&rt, alloc, &second, (6, wanted.as_str()))?;
     }
     Ok(())
 }

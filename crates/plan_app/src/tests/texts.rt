@@ -1,6 +1,7 @@
 //! Planning texts and certificates, and texts with other words in places.
 
 use std::alloc::{AllocError, Global};
+use std::fmt::Write;
 
 /// A coin is flipped until it falls as it should.
 pub(super) const COIN: &str = "(define (domain coin)
@@ -101,4 +102,57 @@ pub(super) fn joined(alloc: Global, first: &str, second: &str) -> Result<String,
     let mut out = String::from_str(alloc, first)?;
     out.push_str(second)?;
     Ok(out)
+}
+
+/// The text and a piece for each of these numbers.
+fn push_numbered(
+    text: &mut String,
+    piece: (&str, &str),
+    first: u32,
+    past: u32,
+) -> Result<(), AllocError> {
+    for k in first..past {
+        text.push_str(piece.0)?;
+        write!(text, "{k}")?;
+        text.push_str(piece.1)?;
+    }
+    Ok(())
+}
+
+/// A road of 201 places, one behind the other.
+pub(super) fn road(alloc: Global) -> Result<String, AllocError> {
+    let mut text = String::from_str(
+        alloc,
+        "(define (domain road) (:predicates (at ?x) (next ?x ?y))
+  (:action go :parameters (?x ?y) :precondition (and (at ?x) (next ?x ?y))
+    :effect (and (at ?y) (not (at ?x)))))
+(define (problem road-200) (:domain road) (:objects",
+    )?;
+    push_numbered(&mut text, (" p", ""), 0, 201)?;
+    text.push_str(") (:init (at p0)")?;
+    for k in 0..200_u32 {
+        let next = k + 1;
+        write!(text, " (next p{k} p{next})")?;
+    }
+    text.push_str(") (:goal (at p200)))\n")?;
+    Ok(text)
+}
+
+/// As many ground actions as a problem may have, and any of them reaches the goal. The domain has more actions where
+/// some are given.
+pub(super) fn wide(alloc: Global, more: &str) -> Result<String, AllocError> {
+    let mut text = String::from_str(
+        alloc,
+        "(define (domain wide) (:types t1 t2 t3) (:predicates (p))
+  (:action a :parameters (?x - t1 ?y - t2 ?z - t3) :effect (p))",
+    )?;
+    text.push_str(more)?;
+    text.push_str(")\n(define (problem wide-1) (:domain wide) (:objects")?;
+    push_numbered(&mut text, (" x", ""), 1, 15)?;
+    text.push_str(" - t1")?;
+    push_numbered(&mut text, (" y", ""), 1, 32)?;
+    text.push_str(" - t2")?;
+    push_numbered(&mut text, (" z", ""), 1, 152)?;
+    text.push_str(" - t3) (:init) (:goal (p)))\n")?;
+    Ok(text)
 }

@@ -1,8 +1,7 @@
 -- What `run` says of the words that it is lent, said of the words; and a shelf that is left alone is left as any request may leave it.
-use Rattle.std.proofs.Common.{◌≡◌, inl, inr, Some, rules}
-use Rattle.std.specs.Prelude.{map, string_bytes}
-use Rattle.plan_request.specs.Asked.{to_solve}
-use Rattle.plan_app.specs.Asking.{asked_of}
+use Rattle.std.proofs.Common.{inl, inr, rules}
+use Rattle.std.specs.Prelude.{◌≡◌, map, string_bytes, Some}
+use Rattle.plan_request.specs.Asked.{to_solve, to_serve, request_of}
 use Rattle.plan_app.proofs.Flow.{unchanged}
 use Rattle.ppddl_plan.proofs.run_with.Goals as goal
 
@@ -10,11 +9,14 @@ pub returns-in-Ok-clause-write_failed : goal.returns-in-Ok-clause-write_failed
 returns-in-Ok-clause-write_failed g c = λ four.
     elim (c.run.ensures.write_failed four) [
       | inl rose ↦ inl rose
-      | inr (s, asks, rose) ↦
-          let is : asked_of (map string_bytes c.args.words.now) ≡ Some (to_solve s) = search (rules, asks, c.in-Ok.ensures, c.as_slice.ensures.value) in
-          inr (s, is, rose)
+      | inr (s, inl solves, rose) ↦
+          let is : request_of (map string_bytes c.args.words.now) ≡ Some (to_solve s) = search (rules, solves, c.in-Ok.ensures, c.as_slice.ensures.value) in
+          inr (s, inl is, rose)
+      | inr (s, inr serves, rose) ↦
+          let is : request_of (map string_bytes c.args.words.now) ≡ Some (to_serve s) = search (rules, serves, c.in-Ok.ensures, c.as_slice.ensures.value) in
+          inr (s, inr is, rose)
     ]
 
 pub returns-in-Err-clause-shelf : goal.returns-in-Err-clause-shelf
 returns-in-Err-clause-shelf g c =
-    unchanged g.S.Shelf.held g.S.Shelf.read_faults g.S.Shelf.write_faults c.args.shelf.now (asked_of (map string_bytes c.args.words.now))
+    unchanged g.S.Shelf.held g.S.Shelf.read_faults g.S.Shelf.write_faults c.args.shelf.now (request_of (map string_bytes c.args.words.now))

@@ -1,16 +1,58 @@
--- A measure asks no shelf, and ends as its request may.
-use Rattle.std.proofs.Common.{sym, subst}
-use Rattle.plan_request.specs.Shown.{shown_request}
-use Rattle.plan_app.specs.Asking.{built}
-use Rattle.plan_app.specs.Endings.{MayEndWords}
-use Rattle.plan_app.proofs.Flow.{measured}
+-- A request that starts no server puts nothing but its ending.
+use Rattle.std.proofs.Common.{sym, subst, Some}
+use Rattle.plan_request.specs.Asked.{to_solve, to_check, to_ground, to_bench}
+use Rattle.plan_request.specs.Shown.{shown_sources, shown_solving, shown_request}
+use Rattle.policy_server.specs.Serving.{input}
+use Rattle.plan_app.specs.Putting.{PutsAnswers}
+use Rattle.plan_app.proofs.Flow.{measured, puts_nothing}
 use Rattle.plan_app.proofs.commands.answer.Goals as goal
+
+pub returns-in-Solve-clause-ends : goal.returns-in-Solve-clause-ends
+returns-in-Solve-clause-ends g c =
+    subst
+    (λ r. PutsAnswers g.S.Shelf.held g.S.Shelf.read_faults g.S.Shelf.write_faults c.args.shelf.now c.solve.new.shelf
+    (input g.I.Source.left g.I.Source.ends g.I.Source.faults c.args.source.now)
+    (input g.I.Source.left g.I.Source.ends g.I.Source.faults c.args.source.now)
+    (g.O.Sink.taken c.args.out.now) (g.O.Sink.taken c.args.out.now) (Some (shown_request r)) c.solve.result)
+    (sym c.in-Solve.is)
+    (puts_nothing g.S.Shelf.held g.S.Shelf.read_faults g.S.Shelf.write_faults c.args.shelf.now c.solve.new.shelf
+    (input g.I.Source.left g.I.Source.ends g.I.Source.faults c.args.source.now) (g.O.Sink.taken c.args.out.now)
+    (to_solve (shown_solving c.in-Solve.solving)) c.solve.result c.solve.ensures.ends)
+
+pub returns-in-Check-clause-ends : goal.returns-in-Check-clause-ends
+returns-in-Check-clause-ends g c =
+    subst
+    (λ r. PutsAnswers g.S.Shelf.held g.S.Shelf.read_faults g.S.Shelf.write_faults c.args.shelf.now c.check.new.shelf
+    (input g.I.Source.left g.I.Source.ends g.I.Source.faults c.args.source.now)
+    (input g.I.Source.left g.I.Source.ends g.I.Source.faults c.args.source.now)
+    (g.O.Sink.taken c.args.out.now) (g.O.Sink.taken c.args.out.now) (Some (shown_request r)) c.check.result)
+    (sym c.in-Check.is)
+    (puts_nothing g.S.Shelf.held g.S.Shelf.read_faults g.S.Shelf.write_faults c.args.shelf.now c.check.new.shelf
+    (input g.I.Source.left g.I.Source.ends g.I.Source.faults c.args.source.now) (g.O.Sink.taken c.args.out.now)
+    (to_check (shown_sources c.in-Check.sources) c.in-Check.certificate.now) c.check.result c.check.ensures.ends)
+
+pub returns-in-Ground-clause-ends : goal.returns-in-Ground-clause-ends
+returns-in-Ground-clause-ends g c =
+    subst
+    (λ r. PutsAnswers g.S.Shelf.held g.S.Shelf.read_faults g.S.Shelf.write_faults c.args.shelf.now c.ground.new.shelf
+    (input g.I.Source.left g.I.Source.ends g.I.Source.faults c.args.source.now)
+    (input g.I.Source.left g.I.Source.ends g.I.Source.faults c.args.source.now)
+    (g.O.Sink.taken c.args.out.now) (g.O.Sink.taken c.args.out.now) (Some (shown_request r)) c.ground.result)
+    (sym c.in-Ground.is)
+    (puts_nothing g.S.Shelf.held g.S.Shelf.read_faults g.S.Shelf.write_faults c.args.shelf.now c.ground.new.shelf
+    (input g.I.Source.left g.I.Source.ends g.I.Source.faults c.args.source.now) (g.O.Sink.taken c.args.out.now)
+    (to_ground (shown_sources c.in-Ground.sources)) c.ground.result c.ground.ensures.ends)
 
 pub returns-in-Bench-clause-ends : goal.returns-in-Bench-clause-ends
 returns-in-Bench-clause-ends g c =
     subst
-    (λ r. MayEndWords g.S.Shelf.held g.S.Shelf.read_faults g.S.Shelf.write_faults c.args.shelf.now c.args.shelf.now
-    (built (shown_request r)) c.bench.result)
+    (λ r. PutsAnswers g.S.Shelf.held g.S.Shelf.read_faults g.S.Shelf.write_faults c.args.shelf.now c.args.shelf.now
+    (input g.I.Source.left g.I.Source.ends g.I.Source.faults c.args.source.now)
+    (input g.I.Source.left g.I.Source.ends g.I.Source.faults c.args.source.now)
+    (g.O.Sink.taken c.args.out.now) (g.O.Sink.taken c.args.out.now) (Some (shown_request r)) c.bench.result)
     (sym c.in-Bench.is)
+    (puts_nothing g.S.Shelf.held g.S.Shelf.read_faults g.S.Shelf.write_faults c.args.shelf.now c.args.shelf.now
+    (input g.I.Source.left g.I.Source.ends g.I.Source.faults c.args.source.now) (g.O.Sink.taken c.args.out.now)
+    (to_bench c.in-Bench.places c.in-Bench.seed) c.bench.result
     (measured g.S.Shelf.held g.S.Shelf.read_faults g.S.Shelf.write_faults c.args.shelf.now c.args.shelf.now c.in-Bench.places c.in-Bench.seed
-    c.bench.result c.bench.ensures)
+    c.bench.result c.bench.ensures))

@@ -23,7 +23,7 @@ pub returns-in-Err-WriteFailed-clause-cut_short : goal.returns-in-Err-WriteFaile
 returns-in-Err-WriteFailed-clause-cut_short g c = λ four. record {
   said = Err WriteFailed;
   is_said = inl (search (rules, c.in-Err-WriteFailed.is, c.in-Err-WriteFailed.field-0-is));
-  put = inr (refl, refl);
+  put = inr (refl, Appends-nil (g.O.Sink.taken c.args.out.now));
 }
 
 pub returns-in-Ok-line-clause-put : goal.returns-in-Ok-line-clause-put

@@ -1,12 +1,24 @@
 -- The clauses of the top call, from how the words may end and what was put.
-use Rattle.std.proofs.Common.{◌≢◌, inl, inr, arith}
+use Rattle.std.proofs.Common.{◌≡◌, ◌≢◌, ◌⊎◌, ◌++◌, inl, inr, sym, ap, ◌∙◌, subst, arith, Err}
+use Rattle.std.specs.Io.KnownBytes.{Appends}
+use Rattle.shelf_io.specs.Causes.{Rose}
+use Rattle.policy_server.specs.Serving.{input}
+use Rattle.plan_request.specs.Asked.{Solving}
 use Rattle.plan_stop.specs.Stop.{ending_text}
 use Rattle.plan_stop.specs.declared.status.TheConstants.{WRITE_FAILED}
+use Rattle.plan_stop.specs.declared.stop.Stop.TheVariants.{WriteFailed}
+use Rattle.plan_app.specs.Asking.{asked_by, AsksToSearch}
 use Rattle.plan_app.specs.Endings.{MayEndAs}
-use Rattle.plan_app.proofs.Asked.{check_terms, ground_terms, solve_range}
+use Rattle.plan_app.specs.Putting.{PutsAnswers}
+use Rattle.plan_app.specs.Verdicts.{IsAnswerTo}
+use Rattle.plan_app.proofs.Asked.{check_terms, ground_terms, solve_range, serve_range}
+use Rattle.plan_app.proofs.Exchanges.{rose_on}
+use Rattle.plan_app.proofs.Answering.{answer_with, write_rose}
 use Rattle.plan_app.proofs.Statuses.{
   ended,
+  put_whole,
   cut,
+  request_ends,
   bad_words_exactly,
   refused_exactly,
   limited_so,
@@ -18,29 +30,43 @@ use Rattle.plan_app.proofs.Statuses.{
   report_put,
   read_failed_only,
   write_failed_for,
-  write_rose,
-  answered,
 }
-use Rattle.plan_app.proofs.Solved.{solution_put, measure_put, report_is_a_verdict}
+use Rattle.plan_app.proofs.Solved.{solution_put, service_put, measure_put, report_is_a_verdict}
 use Rattle.plan_app.proofs.program.run.Given.{Over}
 use Rattle.plan_app.proofs.program.run.Goals as goal
 
+-- what the parts of the run put
+abbrev puts_at : (g : Over) (c : goal.After-put_ending g)
+    → PutsAnswers g.S.Shelf.held g.S.Shelf.read_faults g.S.Shelf.write_faults c.args.shelf.now c.report_of-ending.new.shelf
+    (input g.I.Source.left g.I.Source.ends g.I.Source.faults c.args.source.now)
+    (input g.I.Source.left g.I.Source.ends g.I.Source.faults c.report_of-ending.new.source)
+    (g.O.Sink.taken c.args.out.now) (g.O.Sink.taken c.report_of-ending.new.out) (asked_by c.args.words.now) c.report_of-ending.result
+puts_at g c = c.report_of-ending.ensures.ends
+
 -- how the run ended, if its text was put whole
 ended_at : (g : Over) (c : goal.After-put_ending g) (written : c.put_ending.result ≢ WRITE_FAILED)
-    → MayEndAs g.S.Shelf.held g.S.Shelf.read_faults g.S.Shelf.write_faults c.args.words.now c.args.shelf.now c.report_of-ending.new.shelf c.put_ending.result
-    (ending_text (c.put_ending.ensures.put written).said)
-ended_at g c written = ended g.S.Shelf.held g.S.Shelf.read_faults g.S.Shelf.write_faults c.args.words.now c.args.shelf.now c.report_of-ending.new.shelf c.report_of-ending.result
-    c.report_of-ending.ensures.ends c.put_ending.result _ _ (c.put_ending.ensures.put written)
+    → MayEndAs g.S.Shelf.held g.S.Shelf.read_faults g.S.Shelf.write_faults c.args.words.now c.args.shelf.now c.report_of-ending.new.shelf
+    (input g.I.Source.left g.I.Source.ends g.I.Source.faults c.args.source.now)
+    (input g.I.Source.left g.I.Source.ends g.I.Source.faults c.report_of-ending.new.source) c.put_ending.result
+    ((puts_at g c).answers ++ ending_text (c.put_ending.ensures.put written).said)
+ended_at g c written = ended g.S.Shelf.held g.S.Shelf.read_faults g.S.Shelf.write_faults c.args.words.now c.args.shelf.now c.report_of-ending.new.shelf
+    _ _ _ _ c.report_of-ending.result (puts_at g c) c.put_ending.result _ (c.put_ending.ensures.put written)
+
+-- and what was put then
+put_at : (g : Over) (c : goal.After-put_ending g) (written : c.put_ending.result ≢ WRITE_FAILED)
+    → Appends (g.O.Sink.taken c.args.out.now) (g.O.Sink.taken c.put_ending.new.out)
+    ((puts_at g c).answers ++ ending_text (c.put_ending.ensures.put written).said)
+put_at g c written = put_whole g.S.Shelf.held g.S.Shelf.read_faults g.S.Shelf.write_faults c.args.words.now c.args.shelf.now c.report_of-ending.new.shelf
+    _ _ _ _ c.report_of-ending.result (puts_at g c) c.put_ending.result _ (c.put_ending.ensures.put written)
 
 pub returns-clause-ends : goal.returns-clause-ends
 returns-clause-ends g c = λ written.
-    let says = c.put_ending.ensures.put written in
-    (ending_text says.said, ended_at g c written, says.put)
+    ((puts_at g c).answers ++ ending_text (c.put_ending.ensures.put written).said, ended_at g c written, put_at g c written)
 
 pub returns-clause-cut_short : goal.returns-clause-cut_short
 returns-clause-cut_short g c = λ four.
-    cut g.S.Shelf.held g.S.Shelf.read_faults g.S.Shelf.write_faults c.args.words.now c.args.shelf.now c.report_of-ending.new.shelf c.report_of-ending.result
-    c.report_of-ending.ensures.ends _ _ (c.put_ending.ensures.cut_short four)
+    cut g.S.Shelf.held g.S.Shelf.read_faults g.S.Shelf.write_faults c.args.words.now c.args.shelf.now c.report_of-ending.new.shelf
+    _ _ _ _ c.report_of-ending.result (puts_at g c) _ (c.put_ending.ensures.cut_short four)
 
 pub returns-clause-bad_words : goal.returns-clause-bad_words
 returns-clause-bad_words g c = λ written enough. bad_words_exactly (ended_at g c written) c.source_laws.ensures.stops enough
@@ -75,7 +101,7 @@ pub returns-clause-stands : goal.returns-clause-stands
 returns-clause-stands g c = λ s t tells zero.
     let written : c.put_ending.result ≢ WRITE_FAILED = λ four. omega (arith, zero, four) in
     problem_put (ended_at g c written) c.source_laws.ensures.told c.source_laws.ensures.stops s t
-    c.source_laws.ensures.stands (ground_terms c.request_laws.ensures c.args.words.now s tells.asks) tells _ _ zero (c.put_ending.ensures.put written).put
+    c.source_laws.ensures.stands (ground_terms c.request_laws.ensures c.args.words.now s tells.asks) tells _ _ zero (put_at g c written)
 
 pub returns-clause-encloses : goal.returns-clause-encloses
 returns-clause-encloses g c = λ s t f tells zero.
@@ -84,7 +110,7 @@ returns-clause-encloses g c = λ s t f tells zero.
     c.text_laws.ensures.reads c.check_laws.ensures.accepted f tells
     c.source_laws.ensures.stands (check_terms c.request_laws.ensures c.args.words.now s tells.name tells.asks)
     c.task_certificate_laws.ensures.balance c.task_certificate_laws.ensures.encloses c.task_certificate_laws.ensures.ends
-    c.task_laws.ensures.well_formed _ _ zero (c.put_ending.ensures.put written).put
+    c.task_laws.ensures.well_formed _ _ zero (put_at g c written)
 
 pub returns-clause-solves : goal.returns-clause-solves
 returns-clause-solves g c = λ s t tells has.
@@ -93,7 +119,16 @@ returns-clause-solves g c = λ s t tells has.
     c.task_certificate_laws.ensures.balance c.task_certificate_laws.ensures.encloses
     c.task_progress_laws.ensures.starts c.task_laws.ensures.well_formed c.task_laws.ensures.proper c.task_laws.ensures.proper_starts
     (ended_at g c written) has c.source_laws.ensures.stops c.source_laws.ensures.told s t
-    (solve_range c.request_laws.ensures c.args.words.now s tells.asks).terms tells _ _ (c.put_ending.ensures.put written).put
+    (solve_range c.request_laws.ensures c.args.words.now s tells.asks).terms tells _ _ (put_at g c written)
+
+pub returns-clause-serves : goal.returns-clause-serves
+returns-clause-serves g c = λ s t tells has.
+    let written : c.put_ending.result ≢ WRITE_FAILED = (report_is_a_verdict c.put_ending.result has).no_write_fault in
+    service_put c.source_laws.ensures.stands c.same_level_laws.ensures.depth c.same_value_laws.ensures.plain
+    c.task_certificate_laws.ensures.balance c.task_certificate_laws.ensures.encloses
+    c.task_progress_laws.ensures.starts c.task_laws.ensures.well_formed c.task_laws.ensures.proper c.task_laws.ensures.proper_starts
+    (ended_at g c written) has c.source_laws.ensures.stops c.source_laws.ensures.told s t
+    (serve_range c.request_laws.ensures c.args.words.now s tells.asks).terms tells _ _ (put_at g c written)
 
 pub returns-clause-measures : goal.returns-clause-measures
 returns-clause-measures g c = λ places seed asks has.
@@ -101,29 +136,62 @@ returns-clause-measures g c = λ places seed asks has.
     measure_put c.source_laws.ensures.stands c.same_level_laws.ensures.depth c.same_value_laws.ensures.plain
     c.task_certificate_laws.ensures.balance c.task_certificate_laws.ensures.encloses
     c.task_progress_laws.ensures.starts c.task_laws.ensures.well_formed c.task_laws.ensures.proper c.task_laws.ensures.proper_starts
-    (ended_at g c written) has c.source_laws.ensures.stops places seed asks _ _ (c.put_ending.ensures.put written).put
+    (ended_at g c written) has c.source_laws.ensures.stops places seed asks _ _ (put_at g c written)
+
+-- a certificate was not written, or the sink failed before the ending was put
+not_written : (g : Over) (c : goal.After-put_ending g) → c.report_of-ending.result ≡ Err WriteFailed
+    → Rose (g.O.Sink.faults c.args.out.now) (g.O.Sink.faults c.put_ending.new.out)
+    ⊎ ((s : Solving) × AsksToSearch c.args.words.now s × Rose (g.S.Shelf.write_faults c.args.shelf.now) (g.S.Shelf.write_faults c.report_of-ending.new.shelf))
+not_written g c is =
+    elim (write_failed_for g.S.Shelf.held g.S.Shelf.read_faults g.S.Shelf.write_faults c.args.shelf.now c.report_of-ending.new.shelf
+    _ c.source_laws.ensures.stops _ _ is (puts_at g c).may_end) [
+      | inl asks ↦ elim (c.report_of-ending.ensures.write_failed asks is) [
+        | inl rose ↦ inl (subst (λ out. Rose (g.O.Sink.faults c.args.out.now) (g.O.Sink.faults out)) (sym (c.put_ending.ensures.unwritten is)) rose)
+        | inr rose ↦ inr (asks.0, inr asks.1, rose)
+      ]
+      | inr (s, asks, rose) ↦ inr (s, inl asks, rose)
+    ]
+
+-- 4 comes by a fault of the sink, or where a certificate was not written
+four_by : (g : Over) (c : goal.After-put_ending g) → c.put_ending.result ≡ WRITE_FAILED
+    → Rose (g.O.Sink.faults c.args.out.now) (g.O.Sink.faults c.put_ending.new.out)
+    ⊎ ((s : Solving) × AsksToSearch c.args.words.now s × Rose (g.S.Shelf.write_faults c.args.shelf.now) (g.S.Shelf.write_faults c.report_of-ending.new.shelf))
+four_by g c four = elim (c.put_ending.ensures.write_failed four) [
+  | inl rose ↦ inl (rose_on _ _ _ c.report_of-ending.ensures.counts rose)
+  | inr is ↦ not_written g c is
+]
 
 pub returns-clause-write_failed : goal.returns-clause-write_failed
-returns-clause-write_failed g c = λ four.
-    elim (c.put_ending.ensures.write_failed four) [
-      | inl rose ↦ inl rose
-      | inr is ↦ inr (write_failed_for g.S.Shelf.held g.S.Shelf.read_faults g.S.Shelf.write_faults c.args.shelf.now c.report_of-ending.new.shelf
-          c.source_laws.ensures.stops _ _ is c.report_of-ending.ensures.ends)
-    ]
+returns-clause-write_failed g c = λ four. four_by g c four
 
 pub returns-clause-read_failed : goal.returns-clause-read_failed
 returns-clause-read_failed g c = λ three.
     read_failed_only (ended_at g c (λ four. omega (arith, three, four))) three
 
+pub returns-clause-memory : goal.returns-clause-memory
+returns-clause-memory g c = λ five. elim c.report_of-ending.ensures.silent [
+  | inl asks ↦ inl asks
+  | inr same ↦ inr (c.put_ending.ensures.memory five ∙ ap g.O.Sink.taken same.1)
+]
+
+pub returns-clause-unwritten : goal.returns-clause-unwritten
+returns-clause-unwritten g c = λ four. elim c.report_of-ending.ensures.silent [
+  | inl asks ↦ inl asks
+  | inr same ↦ inr (elim (c.put_ending.ensures.write_failed four) [
+    | inl rose ↦ inl (rose_on _ _ _ c.report_of-ending.ensures.counts rose)
+    | inr is ↦ inr (ap g.O.Sink.taken (c.put_ending.ensures.unwritten is ∙ same.1))
+  ])
+]
+
 pub returns-clause-answered : goal.returns-clause-answered
 returns-clause-answered g c = λ q asks lacks faults puts.
-    let written : c.put_ending.result ≢ WRITE_FAILED = λ four.
-    elim (c.put_ending.ensures.write_failed four) [
+    let written : c.put_ending.result ≢ WRITE_FAILED = λ four. elim (four_by g c four) [
       | inl rose ↦ puts rose
-      | inr is ↦
-          let failed = write_failed_for g.S.Shelf.held g.S.Shelf.read_faults g.S.Shelf.write_faults c.args.shelf.now c.report_of-ending.new.shelf
-          c.source_laws.ensures.stops _ _ is c.report_of-ending.ensures.ends in
-          faults (write_rose g.S.Shelf.held g.S.Shelf.read_faults g.S.Shelf.write_faults c.args.shelf.now c.report_of-ending.new.shelf
-          c.args.words.now q asks failed)
+      | inr (s, searches, rose) ↦ faults (write_rose g.S.Shelf.read_faults g.S.Shelf.write_faults g.I.Source.faults c.args.shelf.now c.report_of-ending.new.shelf
+          c.args.source.now c.report_of-ending.new.source c.args.words.now q asks s searches rose)
     ] in
-    answered (ended_at g c written) c.source_laws.ensures.stops q asks lacks faults
+    let ends = ended_at g c written in
+    subst (IsAnswerTo q) (sym ends.status_is)
+    (answer_with g.S.Shelf.held g.S.Shelf.read_faults g.S.Shelf.write_faults g.I.Source.left g.I.Source.ends g.I.Source.faults
+    c.args.shelf.now c.report_of-ending.new.shelf c.args.source.now c.report_of-ending.new.source ends.answers c.source_laws.ensures.stops
+    q ends.ending (request_ends ends q asks) lacks faults (subst (λ n. n ≢ WRITE_FAILED) ends.status_is written))

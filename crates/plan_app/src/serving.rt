@@ -1,0 +1,59 @@
+//! `serve`.
+
+ghost use Rattle.std.specs.Prelude.{◌≡◌, ◌⊎◌, Some, Err};
+ghost use Rattle.shelf_io.specs.Causes.{Rose};
+ghost use Rattle.policy_server.specs.Serving.{input};
+ghost use Rattle.plan_request.specs.Asked.{to_serve};
+ghost use Rattle.plan_request.specs.Laws.{IsSolving};
+ghost use Rattle.plan_request.specs.Shown.{shown_solving};
+ghost use Rattle.plan_stop.specs.declared.stop.Stop.TheVariants.{WriteFailed};
+ghost use Rattle.plan_app.specs.Endings.{CallsFor, OnlyWrites};
+ghost use Rattle.plan_app.specs.Putting.{PutsAnswers, CountsOn};
+
+use crate::solving::write;
+use plan_request::Solving;
+use plan_sources::{problem_of, source_laws};
+use plan_stop::{Report, Stop};
+use shelf_io::{Gate, Shelf, Sink, Source};
+use std::alloc::Global;
+use std::thread::Threads;
+
+/// The report of the search for a certificate of the texts, beside which queries from the source are answered on the
+/// sink. When both have ended the certificate is written, once and whole; where the source or the sink failed there
+/// is none.
+pub(crate) fn serve<R: Threads + Sync, S: Shelf, I: Source, O: Sink, G: Gate>(
+    rt: &R,
+    alloc: Global,
+    solving: &Solving<'_>,
+    shelf: &mut S,
+    source: &mut I,
+    out: &mut O,
+    gate: &G,
+) -> Result<Report, Stop>
+    requires { IsSolving (shown_solving solving.now) }
+    ensures ends { let from = input I.left I.ends I.faults source.old
+        in let to = input I.left I.ends I.faults source.new
+        in PutsAnswers S.held S.read_faults S.write_faults shelf.old shelf.new from to
+        (O.taken out.old) (O.taken out.new) (Some (to_serve (shown_solving solving.now))) result }
+    ensures write_failed { result ≡ Err WriteFailed → Rose (O.faults out.old) (O.faults out.new)
+        ⊎ Rose (S.write_faults shelf.old) (S.write_faults shelf.new) }
+    ensures counts { CountsOn (O.faults out.old) (O.faults out.new) }
+    ensures calls { CallsFor S.held S.calls shelf.old shelf.new
+        (to_serve (shown_solving solving.now)) }
+    ensures shelf { OnlyWrites S.held S.read_faults S.write_faults shelf.old shelf.new
+        (shown_solving solving.now) }
+{
+    source_laws();
+    let problem = problem_of(alloc, &solving.sources, shelf)?;
+    let answer = plan_search::serve(
+        rt,
+        alloc,
+        &problem,
+        &solving.effort,
+        &solving.sizes,
+        source,
+        out,
+        gate,
+    )?;
+    write(alloc, solving.certificate, answer, shelf)
+}
