@@ -136,3 +136,62 @@ fn answers(rt: HostRuntime) -> Result<(), Fail> {
     assert_eq!(rt; status, 1);
     Ok(())
 }
+
+/// What a failing call says behind the answers to the lines before it, if it is a read or a take.
+const READ_FAILED: &[u8] = b"read failed\n";
+
+/// Runs the server with one call that fails, and answers whether there was such a call. A read or a take that fails is
+/// said behind the answers to the lines before it; behind a write or a put that fails nothing is put. No certificate
+/// is written where a call failed, but for a put behind it.
+fn check_failing<R: Threads + Sync + Abort>(
+    rt: &R,
+    alloc: Global,
+    failing: (u64, u64, u64),
+    whole: &str,
+) -> Result<bool, AllocError> {
+    let server = Server {
+        words: COIN_WORDS,
+        input: QUERIES,
+        failing,
+    };
+    let (status, shelf, out) = serve_on(rt, alloc, &server)?;
+    let met = status != 1;
+    let said = out.bytes().ends_with(READ_FAILED);
+    if said {
+        assert_eq!(rt; status, 3);
+    } else if met {
+        assert_eq!(rt; status, 4);
+    }
+    let behind = if said { READ_FAILED.len() } else { 0 };
+    let length = out.bytes().len().saturating_sub(behind);
+    let Some(front) = out.bytes().get(..length) else {
+        assert!(rt; false);
+        return Ok(met);
+    };
+    assert!(rt; whole.as_bytes().starts_with(front));
+    assert!(rt; met || front.len() == whole.len());
+    let written = shelf.bytes_of("c").is_some();
+    assert_eq!(rt; written, !met || failing.2 > 5);
+    Ok(met)
+}
+
+/// Each call of the shelf, of the source and of the sink fails in turn, until none is left to fail.
+#[test]
+fn failing_calls(rt: HostRuntime) -> Result<(), Fail> {
+    let alloc = rt.alloc();
+    let whole = repeated(alloc, ANSWERS, 1, REPORT)?;
+    let mut met = (true, true, true);
+    for call in 1..100u64 {
+        if met.0 {
+            met.0 = check_failing(&rt, alloc, (call, 0, 0), whole.as_str())?;
+        }
+        if met.1 {
+            met.1 = check_failing(&rt, alloc, (0, call, 0), whole.as_str())?;
+        }
+        if met.2 {
+            met.2 = check_failing(&rt, alloc, (0, 0, call), whole.as_str())?;
+        }
+    }
+    assert!(rt; !met.0 && !met.1 && !met.2);
+    Ok(())
+}
