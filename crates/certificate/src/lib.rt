@@ -23,6 +23,3 @@ pub use refusal::{CertRefusal, WriteRefusal};
 pub use row_view::RowView;
 pub use rows::Rows;
 pub use writing::write;
-
-#[cfg(test)]
-mod tests;

@@ -1,7 +1,7 @@
 //! Rows in one arena.
 
 ghost use Rattle.std.specs.Prelude.{◌≡◌, ◌-◌, ◌<◌, ◌==◌, ◌++◌, ◌∷◌, [], length, IfOk, Some};
-ghost use Rattle.std.specs.Prelude.{option_map};
+ghost use Rattle.std.specs.Prelude.{OnOk, OnErr, option_map};
 ghost use Rattle.std.specs.List.{slice_get};
 ghost use Rattle.certificate.specs.Rows.{IsWithin, row_within, shown};
 
@@ -79,21 +79,23 @@ impl Rows {
         Ok(Rows { heads, numbers })
     }
 
-    /// Puts a row behind the others. It is refused for want of memory alone; an arena has room for
-    /// 2^32 - 1 numbers.
+    /// Puts a row behind the others. It is refused for want of memory alone, and the rows are then as
+    /// they were; an arena has room for 2^32 - 1 numbers.
     pub fn push(&mut self, row: RowView<'_>) -> Result<(), AllocError>
-        ensures { IfOk result (λ _. self.new ≡ self.old ++ shown row.entry ∷ []) }
+        ensures pushed { OnOk result (self.new ≡ self.old ++ shown row.entry ∷ []) }
+        ensures refused { OnErr result (self.new ≡ self.old) }
     {
         let from = place_within(self.numbers.len())?;
+        let to = place_within(self.numbers.len().saturating_add(row.atoms.len()))?;
+        self.heads.reserve(1)?;
         self.numbers.extend_from_slice(row.atoms)?;
-        let to = place_within(self.numbers.len())?;
-        self.heads.push(Head {
+        self.heads.push_reserved(Head {
             lower: row.lower,
             upper: row.upper,
             act: row.act,
             from,
             to,
-        })?;
+        });
         Ok(())
     }
 

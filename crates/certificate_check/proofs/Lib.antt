@@ -6,6 +6,5 @@ pub mod Places
 pub mod Rising
 pub mod RowVerdict
 pub mod Sound
-pub mod SureCoin
 pub mod Table
 pub mod Verdicts

@@ -4,4 +4,3 @@ pub mod Codes
 pub mod GroundRows
 pub mod Pass
 pub mod Laws
-pub mod Examples

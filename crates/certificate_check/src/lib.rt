@@ -17,6 +17,3 @@ mod verdict;
 pub use checker::check;
 pub use laws::check_laws;
 pub use verdict::Verdict;
-
-#[cfg(test)]
-mod tests;

@@ -23,7 +23,7 @@ returns-in_err-row c =
 
 pub loop-index-preserved : goal.loop-index-preserved
 loop-index-preserved c =
-    rw c.in_ok-push.ensures (
+    rw c.in_ok-push.ensures.pushed (
     goes_on (rows_list c.args.tables.atoms c.args.tables.acts) c.loop-index.rows c.args.first c.args.count c.loop-index.index (parts 10 c.loop-index.rest.now) _
     c.in_ok-text.text.now (parts 10 c.in_ok-text.after.now) (shown c.in_ok-row.row) c.loop-index-test.true c.in_ok-text.ensures (rw c.last.ensures at c.in_ok-row.ensures) c.loop-index.invariant
     )

@@ -5,7 +5,7 @@ use Rattle.ground_model.specs.Coin.{coin}
 use Rattle.ground_model.specs.Ground.{Ground, of_parts}
 use Rattle.ground_model.specs.Invariant.{IsGroundProblem}
 use Rattle.ground_model.proofs.Coin.{coin_is_ground_problem}
-use Rattle.certificate_check.proofs.tests.coin.Goals as goal
+use Rattle.certificate_tests.proofs.tests.coins.coin.Goals as goal
 
 pub new-requires : goal.new-requires
 new-requires c =

@@ -3,9 +3,9 @@ use Rattle.std.proofs.Common.{◌≡◌, subst, rules}
 use Rattle.ground_model.specs.declared.condition.GroundCondition.TheVariants.{Atom}
 use Rattle.ground_model.specs.Ground.{Ground, of_parts}
 use Rattle.ground_model.specs.Invariant.{IsGroundProblem}
-use Rattle.certificate_check.specs.Examples.{sure_coin}
-use Rattle.certificate_check.proofs.SureCoin.{sure_coin_is_ground_problem}
-use Rattle.certificate_check.proofs.tests.sure_coin.Goals as goal
+use Rattle.certificate_tests.specs.Examples.{sure_coin}
+use Rattle.certificate_tests.proofs.SureCoin.{sure_coin_is_ground_problem}
+use Rattle.certificate_tests.proofs.tests.coins.sure_coin.Goals as goal
 
 pub new-requires : goal.new-requires
 new-requires c =

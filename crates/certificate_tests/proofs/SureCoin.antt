@@ -8,7 +8,7 @@ use Rattle.ground_model.specs.declared.start.Start.{Start}
 use Rattle.ground_model.specs.Invariant.{IsDistribution, AreLiterals, IsGuarded, IsChoice, IsAction, IsInside, IsGroundProblem}
 use Rattle.ground_model.specs.Coin.{heads, tails, shows_heads}
 use Rattle.ground_model.specs.Packed.{State}
-use Rattle.certificate_check.specs.Examples.{turn, sure_coin}
+use Rattle.certificate_tests.specs.Examples.{turn, sure_coin}
 
 one_of : {X : Type 0} (P : X → Type 0) (x : X) → P x → All P (x ∷ [])
 one_of P x holds = All-cons P x [] holds (All-nil P)
