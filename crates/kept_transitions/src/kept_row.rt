@@ -1,7 +1,7 @@
 //! Where the open actions of an id stand.
 
 ghost use Rattle.std.specs.Prelude.{◌≡◌, ◌≤◌, ◌↔◌, IsTrue};
-ghost use Rattle.kept_transitions.specs.Rows.{IsKept};
+ghost use Rattle.kept_transitions.specs.Rows.{IsKept, untried};
 
 /// Where the open actions of an id stand: from `first` up to below `past`. An id of which nothing is kept has a
 /// row whose first place is behind its past one.
@@ -28,7 +28,9 @@ impl KeptRow {
     }
 
     /// Whether the id was not yet tried.
-    pub fn is_untried(self) -> bool {
+    pub fn is_untried(self) -> bool
+        ensures { IsTrue result ↔ self ≡ untried }
+    {
         self.first == 1 && self.past == 0
     }
 }
