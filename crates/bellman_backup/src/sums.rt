@@ -34,13 +34,37 @@ impl Sums {
     }
 }
 
+/// A quotient, rounded down. Most sums have 64 bits, and are divided as such.
+fn quotient(sum: u128, den: u64) -> u128
+    requires { 0 < den }
+    ensures { result ≡ sum / den }
+{
+    if sum <= u128::from(u64::MAX) {
+        u128::from(sum as u64 / den)
+    } else {
+        sum / u128::from(den)
+    }
+}
+
+/// A quotient, rounded up.
+fn quotient_up(sum: u128, den: u64) -> u128
+    requires { 0 < den }
+    ensures { result ≡ div_ceil sum den }
+{
+    if sum <= u128::from(u64::MAX) {
+        u128::from((sum as u64).div_ceil(den))
+    } else {
+        sum.div_ceil(u128::from(den))
+    }
+}
+
 /// The smaller of a bound and a mean, rounded down. It is compared before it is divided.
 pub(crate) fn lesser(bound: u64, sum: u128, den: u64) -> u64
     requires { 0 < den }
     ensures { result ≡ min (sum / den) bound }
 {
     if sum < u128::from(bound) * u128::from(den) {
-        (sum / u128::from(den)) as u64
+        quotient(sum, den) as u64
     } else {
         bound
     }
@@ -53,7 +77,7 @@ pub(crate) fn lesser_word(bound: UpperWord, sum: u128, den: u64, code: u16) -> U
     ensures { result ≡ min (word_of (div_ceil sum den) code) bound }
 {
     if sum <= u128::from(bound.value()) * u128::from(den) {
-        let word = UpperWord::pack(sum.div_ceil(u128::from(den)) as u64, code);
+        let word = UpperWord::pack(quotient_up(sum, den) as u64, code);
         if word.is_below(bound) { word } else { bound }
     } else {
         bound
