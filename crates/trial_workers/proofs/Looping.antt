@@ -1,5 +1,5 @@
 -- The loop of rounds, with a reading of the means behind each.
-use Rattle.std.proofs.Common.{◌≡◌, ℕ, ◌+◌, ◌-◌, ◌<◌, Option, List, [], ◌∷◌, length, get_or, slice_set, refl, subst, arith}
+use Rattle.std.proofs.Common.{◌≡◌, ℕ, ◌+◌, ◌-◌, ◌<◌, ◌≤◌, Option, List, [], ◌∷◌, length, get_or, slice_set, refl, subst, arith}
 use Rattle.sweep_levels.proofs.Rounds.{means_have_rounds}
 use Rattle.ground_model.specs.Packed.{State}
 use Rattle.ground_model.specs.Ground.{Ground}
@@ -16,7 +16,7 @@ use Rattle.trial_workers.specs.declared.worker.Worker.{Worker}
 use Rattle.trial_workers.specs.Workers.{Stays, HasListed}
 use Rattle.trial_workers.specs.Crews.{IsCrewOf, FirstHas, IsListed, HaveStayed, HaveTrials, HasReadMeans, FirstReads}
 use Rattle.trial_workers.specs.Rounds.{with_pass}
-use Rattle.trial_workers.specs.Effort.{HaveRounds, IsWithinPlain, FirstHasSeen}
+use Rattle.trial_workers.specs.Effort.{HaveRounds, IsWithinPlain, FirstHasSeen, FirstIsWithin}
 use Rattle.trial_workers.proofs.Rounding.{first_stays, first_is_crew, first_trials, stayed_again}
 use Rattle.trial_workers.proofs.Counting.{rounds_stay, no_rounds}
 
@@ -74,6 +74,11 @@ module _ (b : Board) (explored : Explored) (listed : IsListed b.problem explored
   reads_seen (o ∷ os) [] read = absurd read
   reads_seen (o ∷ os) (n ∷ ns) read = (read.3.means.lower_until, read.3.means.upper_until)
 
+reads_idle : (b : Board) (gap : ℕ) (m : Means) (os ns : List Worker) → FirstReads b os ns m → FirstIsWithin b.problem gap os → m.upper ≤ m.lower + gap
+reads_idle b gap m [] ns read within = absurd read
+reads_idle b gap m (o ∷ os) [] read within = absurd read
+reads_idle b gap m (o ∷ os) (n ∷ ns) read within = omega (arith, within, read.3.means.lower_since, read.3.means.upper_since)
+
 -- ---- after some rounds, and a reading behind them
 
 pub record Solving (b : Board) (e : Effort) (explored : Explored) (old now : List Worker) (r : ℕ) (m : Means) : Type 0 where
@@ -84,6 +89,7 @@ pub record Solving (b : Board) (e : Effort) (explored : Explored) (old now : Lis
   pub rounds : HaveRounds b.problem explored.depth r now
   pub plain : IsWithinPlain b.problem explored.depth (answer r m)
   pub seen : FirstHasSeen b.problem (answer r m) now
+  pub idle : FirstIsWithin b.problem e.gap old → (r ≡ 0) × (m.upper ≤ m.lower + e.gap)
 
 module _ (b : Board) (e : Effort) (explored : Explored) (listed : IsListed b.problem explored) where
   pub solving_begins : (os ns : List Worker) (m : Means) → IsCrewOf b e.depth os → FirstHas explored.states os → FirstReads b os ns m → Solving b e explored os ns 0 m
@@ -97,12 +103,13 @@ module _ (b : Board) (e : Effort) (explored : Explored) (listed : IsListed b.pro
         rounds = rounds_have_stayed b b.problem explored.depth 0 os ns stayed none;
         plain = reads_within b explored listed 0 m os ns read none;
         seen = reads_seen b explored listed 0 m os ns read;
+        idle = λ within. (refl, reads_idle b e.gap m os ns read within);
       }
 
-  pub solving_goes_on : (old now mid new : List Worker) (r : ℕ) (m m' : Means) → Solving b e explored old now r m → IsCrewOf b e.depth mid → HaveStayed b now mid
+  pub solving_goes_on : (old now mid new : List Worker) (r : ℕ) (m m' : Means) → Solving b e explored old now r m → (m.upper ≤ m.lower + e.gap → ⊥) → IsCrewOf b e.depth mid → HaveStayed b now mid
       → HaveTrials e r mid → ((n : ℕ) → HaveRounds b.problem explored.depth n now → HaveRounds b.problem explored.depth (n + 1) mid) → FirstReads b mid new m'
       → Solving b e explored old new (r + 1) m'
-  solving_goes_on old now mid new r m m' so crew stayed trials rounds read =
+  solving_goes_on old now mid new r m m' so wide crew stayed trials rounds read =
       let read_stayed = reads_stay b m' e.depth mid new crew read in
       let more = rounds r so.rounds in
       let last : r ≡ r + 1 - 1 = omega arith in record {
@@ -113,6 +120,7 @@ module _ (b : Board) (e : Effort) (explored : Explored) (listed : IsListed b.pro
         rounds = rounds_have_stayed b b.problem explored.depth (r + 1) mid new read_stayed more;
         plain = reads_within b explored listed (r + 1) m' mid new read more;
         seen = reads_seen b explored listed (r + 1) m' mid new read;
+        idle = λ within. absurd (wide (so.idle within).1);
       }
 
 -- ---- reading by the first of a list

@@ -4,7 +4,8 @@
 --     HaveRounds g depth r ws    worker 0 has
 --     IsWithinPlain g depth s    the answer is no wider than the interval of as many rounds
 --     FirstHasSeen g s ws        the means of what worker 0 has seen are no wider than the answer
-use Rattle.std.specs.Prelude.{ℕ, ◌≤◌, Option, List, [], ◌∷◌}
+--     FirstIsWithin g gap ws     the means of what worker 0 has seen differ by at most the gap
+use Rattle.std.specs.Prelude.{ℕ, ◌+◌, ◌≤◌, Option, List, [], ◌∷◌}
 use Rattle.decision_process.specs.Rounded.{plain_low, plain_high}
 use Rattle.sweep_levels.specs.Sweeps.{rounds_at, HasRounds}
 use Rattle.ground_model.specs.Ground.{Ground}
@@ -33,3 +34,7 @@ abbrev pub FirstHasSeen : Ground → Solved → List Worker → Type 0
 FirstHasSeen g s [] = ⊥
 FirstHasSeen g s (w ∷ ws) =
     (s.lower ≤ lower_mean g w.pass.view) × (upper_mean g w.pass.view ≤ s.upper)
+
+abbrev pub FirstIsWithin : Ground → ℕ → List Worker → Type 0
+FirstIsWithin g gap [] = ⊥
+FirstIsWithin g gap (w ∷ ws) = upper_mean g w.pass.view ≤ lower_mean g w.pass.view + gap

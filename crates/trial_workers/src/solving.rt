@@ -4,6 +4,7 @@ ghost use Rattle.std.specs.Prelude.{◌≡◌, ◌≤◌, ◌<◌, ◌+◌, ◌-
 ghost use Rattle.trial_workers.specs.Crews.{IsCrewOf, FirstHas, IsListed, HaveStayed, HaveTrials};
 ghost use Rattle.trial_workers.specs.Crews.{FirstReads};
 ghost use Rattle.trial_workers.specs.Effort.{HaveRounds, IsWithinPlain, FirstHasSeen};
+ghost use Rattle.trial_workers.specs.Effort.{FirstIsWithin};
 
 use crate::crew::Crew;
 use crate::effort::{Effort, Solved};
@@ -41,7 +42,8 @@ fn read(words: &Words<'_>, crew: &mut Crew<'_>, explored: &Explored, effort: &Ef
 }
 
 /// Makes rounds until the means of the starts' bounds differ by at most the gap, or the most rounds are made.
-/// Before each round worker 0 reads them, and the last reading is the answer. It takes no memory.
+/// Before each round worker 0 reads them, and the last reading is the answer; so no round is made where it had seen
+/// means as near before. It takes no memory.
 ///
 /// Whatever the workers race for, worker 0 has afterwards seen for each state near the starts at least what as
 /// many rounds of plain iteration bring, as far as they fit the swept depth.
@@ -66,6 +68,7 @@ pub fn solve_words<R: Threads + Sync, G: Gate>(
     ensures rounds { HaveRounds words.now.problem explored.now.depth result.rounds crew.new }
     ensures plain { IsWithinPlain words.now.problem explored.now.depth result }
     ensures seen { FirstHasSeen words.now.problem result crew.new }
+    ensures idle { FirstIsWithin words.now.problem effort.now.gap crew.old → result.rounds ≡ 0 }
 {
     let mut rounds = 0;
     let mut means = read(words, crew, explored, effort);
