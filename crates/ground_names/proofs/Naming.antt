@@ -1,5 +1,5 @@
 -- Names that are compared byte by byte.
-use Rattle.std.proofs.Common.{◌≡◌, ℕ, zero, suc, ◌+◌, ◌<◌, ◌≤◌, Bool, true, false, List, [], ◌∷◌, length, drop, drop-cons, get_or, add-one, Some, None, refl, sym, ap, ◌∙◌, arith}
+use Rattle.std.proofs.Common.{◌≡◌, ℕ, zero, suc, ◌+◌, ◌<◌, ◌≤◌, Bool, true, false, List, [], ◌∷◌, ◌++◌, length, drop, drop-cons, get_or, add-one, Some, None, refl, sym, ap, ◌∙◌, arith}
 use Rattle.std.specs.Prelude.{nat_eq}
 use Rattle.std.specs.Cmp.Lexicographic.{pointwise, texts_ties}
 use Rattle.std.specs.List.{list_any, position_or_len}
@@ -7,7 +7,7 @@ use Rattle.ppddl_model.specs.State.{Name, same_name}
 use Rattle.type_table.specs.Numbered.{number_of}
 use Rattle.type_table.proofs.Lists.{placed, position_at}
 use Rattle.type_table.proofs.Numbered.{has_number}
-use Rattle.ground_names.specs.Keys.{name_key}
+use Rattle.ground_names.specs.Keys.{byte_key, name_key}
 
 pub told : (x y : Name) (test answer : Bool) → test ≡ pointwise nat_eq x y → test ≡ answer → same_name x y ≡ answer
 told x y test answer is so = sym (texts_ties x y) ∙ sym is ∙ so
@@ -24,10 +24,10 @@ has_name names name k is = has_number names name k (sym is)
 
 -- ---- keys
 
-pub key-drop : (name : Name) (i x : ℕ) → i < length name → x ≡ get_or name i x → name_key (drop i name) ≡ 1 ∷ x ∷ name_key (drop (i + 1) name)
+pub key-drop : (name : Name) (i x : ℕ) → i < length name → x ≡ get_or name i x → name_key (drop i name) ≡ byte_key x ++ name_key (drop (i + 1) name)
 key-drop name i x within is =
-    ap name_key (drop-cons name i x within) ∙ ap (λ y. 1 ∷ y ∷ name_key (drop (suc i) name)) (sym is)
-    ∙ ap (λ k. 1 ∷ x ∷ name_key (drop k name)) (sym (add-one i))
+    ap name_key (drop-cons name i x within) ∙ ap (λ y. byte_key y ++ name_key (drop (suc i) name)) (sym is)
+    ∙ ap (λ k. byte_key x ++ name_key (drop k name)) (sym (add-one i))
 
 pub key-end : (name : Name) (i : ℕ) → length name ≤ i → name_key (drop i name) ≡ 0 ∷ []
 key-end [] zero past = refl

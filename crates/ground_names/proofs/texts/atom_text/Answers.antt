@@ -11,6 +11,6 @@ loop-term-init c =
     let written : c.extend_from_slice.new.self.items ≡ 40 ∷ c.args.atom.now.predicate =
     c.in_ok-extend_from_slice.ensures.items
     ∙ (λ i. c.in_ok-push.ensures.items i ++ c.as_slice.ensures i)
-    ∙ ap (λ l. (l ++ 40 ∷ []) ++ c.args.atom.now.predicate) c.new-text.ensures.items in
+    ∙ ap (λ l. (l ++ 40 ∷ []) ++ c.args.atom.now.predicate) c.in_ok-text.ensures.items in
     (λ i. written i ++ (flat_map spaced (map (named b) (c.as_slice-term-items.ensures i)) ++ codes ")"))
     ∙ begun c.args.atom.now.predicate (map (named b) c.args.atom.now.args)
