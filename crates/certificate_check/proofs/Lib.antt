@@ -6,5 +6,6 @@ pub mod Places
 pub mod Rising
 pub mod RowVerdict
 pub mod Sound
+pub mod Stating
 pub mod Table
 pub mod Verdicts

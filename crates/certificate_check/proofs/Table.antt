@@ -10,9 +10,9 @@ use Rattle.decision_process.specs.Readings as readings
 use Rattle.decision_process.specs.Readings.{row_at}
 use Rattle.ground_model.specs.Packed.{State, same_state}
 use Rattle.ground_model.specs.Ground.{Ground}
-use Rattle.certificate_check.specs.declared.row_table.Values.{Values}
+use Rattle.row_check.specs.declared.bounds.Bounds.{Bounds}
 use Rattle.certificate_check.specs.Claims.{knows, row_state, row_of, rows_of}
-use Rattle.certificate_check.specs.GroundRows.{values_at, values_of, HasValuesOf}
+use Rattle.certificate_check.specs.GroundRows.{bounds_at, bounds_of, HasBoundsOf}
 use Rattle.certificate_check.proofs.Distinct.{rows_known, rows_unknown}
 
 -- look-ups by what a key shows
@@ -28,27 +28,27 @@ drop_at (y ∷ ys) (suc k) x at =
     let next : suc (k + 1) ≡ suc k + 1 = omega arith in drop_at ys k x at ∙ ap (λ n. x ∷ drop n (y ∷ ys)) next
 
 module _ (g : Ground) (c : Content) (is : IsCertificate c) where
-  pub values_none : HasValuesOf g c [] []
-  values_none s = refl
+  pub bounds_none : HasBoundsOf g c [] []
+  bounds_none s = refl
 
-  pub values_put : (r : Row) (rest : List Row) (entries entries' : List (State × Values)) (v : Values)
-      → v ≡ record { lower = r.lower; upper = r.upper } → knows g c r ≡ true → HasValuesOf g c rest entries
-      → ((s : State) → values_at entries' s ≡ cond (same_state (row_state g c r) s) (Some v) (values_at entries s))
-      → HasValuesOf g c (r ∷ rest) entries'
-  values_put r rest entries entries' v v_is known has puts s =
+  pub bounds_put : (r : Row) (rest : List Row) (entries entries' : List (State × Bounds)) (v : Bounds)
+      → v ≡ record { lower = r.lower; upper = r.upper } → knows g c r ≡ true → HasBoundsOf g c rest entries
+      → ((s : State) → bounds_at entries' s ≡ cond (same_state (row_state g c r) s) (Some v) (bounds_at entries s))
+      → HasBoundsOf g c (r ∷ rest) entries'
+  bounds_put r rest entries entries' v v_is known has puts s =
       let rows : rows_of g c (r ∷ rest) ≡ row_of g c r ∷ rows_of g c rest = rows_known g c is.atoms_rise r rest known in
       puts s
       ∙ elim (cases_Bool (same_state (row_state g c r) s)) [
         | inl on ↦
-            ap (λ b. cond b (Some v) (values_at entries s)) on ∙ ap Some v_is
-            ∙ sym (ap (λ b. option_map values_of (elim b [ true ↦ Some (row_of g c r) | false ↦ row_at same_state (rows_of g c rest) s ])) on)
+            ap (λ b. cond b (Some v) (bounds_at entries s)) on ∙ ap Some v_is
+            ∙ sym (ap (λ b. option_map bounds_of (elim b [ true ↦ Some (row_of g c r) | false ↦ row_at same_state (rows_of g c rest) s ])) on)
         | inr off ↦
-            ap (λ b. cond b (Some v) (values_at entries s)) off ∙ has s
-            ∙ sym (ap (λ b. option_map values_of (elim b [ true ↦ Some (row_of g c r) | false ↦ row_at same_state (rows_of g c rest) s ])) off)
+            ap (λ b. cond b (Some v) (bounds_at entries s)) off ∙ has s
+            ∙ sym (ap (λ b. option_map bounds_of (elim b [ true ↦ Some (row_of g c r) | false ↦ row_at same_state (rows_of g c rest) s ])) off)
       ]
-      ∙ sym (ap (λ (xs : List (readings.Row State ℕ)). option_map values_of (row_at same_state xs s)) rows)
+      ∙ sym (ap (λ (xs : List (readings.Row State ℕ)). option_map bounds_of (row_at same_state xs s)) rows)
 
-  pub values_passed : (r : Row) (rest : List Row) (entries : List (State × Values)) → knows g c r ≡ false
-      → HasValuesOf g c rest entries → HasValuesOf g c (r ∷ rest) entries
-  values_passed r rest entries unknown has s =
-      has s ∙ sym (ap (λ (xs : List (readings.Row State ℕ)). option_map values_of (row_at same_state xs s)) (rows_unknown g c is.atoms_rise r rest unknown))
+  pub bounds_passed : (r : Row) (rest : List Row) (entries : List (State × Bounds)) → knows g c r ≡ false
+      → HasBoundsOf g c rest entries → HasBoundsOf g c (r ∷ rest) entries
+  bounds_passed r rest entries unknown has s =
+      has s ∙ sym (ap (λ (xs : List (readings.Row State ℕ)). option_map bounds_of (row_at same_state xs s)) (rows_unknown g c is.atoms_rise r rest unknown))

@@ -5,10 +5,10 @@
 --                               the states of the rows stand behind one another, width words each; of each row it is known whether
 --                               the problem has its atoms, and of each entry of the table of acts which action it names
 --     by_state es shown         the entries of a table, by what their keys show
---     values_at entries s       the values that a table of states has for a state, if any
---     values_of row             those of its row
---     values_in x s             those of the state's row, if it has one
---     HasValuesOf, HasFrom
+--     bounds_at entries s       the lower and the upper value that a table of states has for a state, if any
+--     bounds_of row             those of a row
+--     bounds_in x s             those of the state's row, if it has one
+--     HasBoundsOf, HasFrom
 --                               the table has of each state what its row says, of these rows, or of those from a place on
 use Rattle.std.specs.Prelude.{◌≡◌, ℕ, ◌<◌, Option, List, map, drop, length, Bool, option_map}
 use Rattle.std.specs.List.{flat_map, All}
@@ -19,7 +19,7 @@ use Rattle.decision_process.specs.Readings as readings
 use Rattle.decision_process.specs.Readings.{row_at}
 use Rattle.ground_model.specs.Packed.{State, words_for, same_state}
 use Rattle.ground_model.specs.Ground.{Ground}
-use Rattle.certificate_check.specs.declared.row_table.Values.{Values}
+use Rattle.row_check.specs.declared.bounds.Bounds.{Bounds}
 use Rattle.certificate_check.specs.Claims.{act_codes, knows, row_state, rows_of}
 
 pub record Claimed : Type 0 where
@@ -38,20 +38,20 @@ pub record HasRows (g : Ground) (c : Content) (width : ℕ) (words : List ℕ) (
 abbrev pub by_state : {K X : Type 0} → List (K × X) → (K → State) → List (State × X)
 by_state es shown = map (λ e. (shown e.0, e.1)) es
 
-abbrev pub values_at : List (State × Values) → State → Option Values
-values_at entries s = lookup (same_state s) entries
+abbrev pub bounds_at : List (State × Bounds) → State → Option Bounds
+bounds_at entries s = lookup (same_state s) entries
 
-abbrev pub values_of : readings.Row State ℕ → Values
-values_of row = record { lower = row.lower; upper = row.upper }
+abbrev pub bounds_of : readings.Row State ℕ → Bounds
+bounds_of row = record { lower = row.lower; upper = row.upper }
 
 -- of the rows from some place on
-abbrev pub HasValuesOf : Ground → Content → List Row → List (State × Values) → Type 0
-HasValuesOf g c rows entries =
-    (s : State) → values_at entries s ≡ option_map values_of (row_at same_state (rows_of g c rows) s)
+abbrev pub HasBoundsOf : Ground → Content → List Row → List (State × Bounds) → Type 0
+HasBoundsOf g c rows entries =
+    (s : State) → bounds_at entries s ≡ option_map bounds_of (row_at same_state (rows_of g c rows) s)
 
-abbrev pub HasFrom : Claimed → ℕ → List (State × Values) → Type 0
+abbrev pub HasFrom : Claimed → ℕ → List (State × Bounds) → Type 0
 HasFrom x place entries =
-    HasValuesOf x.problem x.certificate (drop place x.certificate.rows) entries
+    HasBoundsOf x.problem x.certificate (drop place x.certificate.rows) entries
 
-abbrev pub values_in : Claimed → State → Option Values
-values_in x s = option_map values_of (row_at same_state (rows_of x.problem x.certificate x.certificate.rows) s)
+abbrev pub bounds_in : Claimed → State → Option Bounds
+bounds_in x s = option_map bounds_of (row_at same_state (rows_of x.problem x.certificate x.certificate.rows) s)

@@ -6,7 +6,6 @@ ghost use Rattle.certificate_check.specs.Claims.{IsBalancedFor};
 ghost use Rattle.certificate_check.specs.Verdicts.{IsVerdict};
 
 use crate::ground_rows::GroundRows;
-use crate::readings::{Lower, Upper};
 use crate::row_table::RowTable;
 use crate::rows::{Room, rows_verdict};
 use crate::verdict::Verdict;
@@ -35,18 +34,10 @@ pub fn check<'c>(
     let table = RowTable::new(alloc, &rows)?;
     let index = OpenActions::new(alloc, problem)?;
     let mut room = Room::new(alloc, problem)?;
-    let low = Lower { table: &table };
-    let high = Upper { table: &table };
-    if let Some(verdict) = rows_verdict(&index, &low, &high, &rows, &mut room) {
+    if let Some(verdict) = rows_verdict(&index, &table, &rows, &mut room) {
         return Ok(verdict);
     }
-    if !is_interval(
-        problem,
-        &low,
-        &high,
-        certificate.lower(),
-        certificate.upper(),
-    ) {
+    if !is_interval(problem, &table, certificate.lower(), certificate.upper()) {
         return Ok(Verdict::Ends);
     }
     Ok(Verdict::Accepted)

@@ -1,14 +1,15 @@
 //! Rows as packed states in one arena.
 
-ghost use Rattle.std.specs.Prelude.{◌≡◌, ◌+◌, ◌<◌, ◌≤◌, length, map, take, drop, IfOk, OnOk};
+ghost use Rattle.std.specs.Prelude.{◌≡◌, ◌+◌, ◌<◌, ◌≤◌, length, map, take, drop, IfOk};
 ghost use Rattle.std.specs.List.{All};
 ghost use Rattle.ground_model.specs.Packed.{words_for};
+ghost use Rattle.ground_step.specs.Atoms.{state_of};
 ghost use Rattle.certificate_check.specs.Claims.{numbers_of, are_known, is_known, states_of};
 ghost use Rattle.certificate_check.specs.GroundRows.{AreWithin};
 
 use certificate::Rows;
 use ground_model::{GroundProblem, List, State};
-use ground_step::state_of_atoms;
+use ground_step::{make_all_false, make_true};
 use std::alloc::{AllocError, Global};
 
 /// How many words a state of a problem has.
@@ -26,26 +27,22 @@ pub(crate) struct PackedRows {
     pub known: Vec<bool>,
 }
 
-/// Puts the numbers of a row's atoms in the place of others, but those of atoms that the problem does
-/// not have. Whether it has them all.
-fn put_numbers(
-    numbers: &[Option<u32>],
-    atoms: &[u32],
-    into: &mut Vec<u32>,
-) -> Result<bool, AllocError>
+/// Writes the state in which a row's atoms are true and no other; those that the problem does not have
+/// are left out. Whether it has them all.
+fn put_atoms(numbers: &[Option<u32>], atoms: &[u32], into: &mut State) -> bool
     requires within { All (λ i. i < length numbers.now) atoms.now }
-    ensures numbers { OnOk result (into.new.items ≡ numbers_of numbers.now atoms.now) }
-    ensures known { IfOk result (λ known. known ≡ are_known numbers.now atoms.now) }
+    ensures state { into.new ≡ state_of (numbers_of numbers.now atoms.now) (length into.old) }
+    ensures known { result ≡ are_known numbers.now atoms.now }
 {
-    into.clear();
+    make_all_false(into);
     let mut is_known = true;
     for atom in atoms {
         match numbers[*atom as usize] {
             None => is_known = false,
-            Some(number) => into.push(number)?,
+            Some(number) => make_true(into, number),
         }
     }
-    Ok(is_known)
+    is_known
 }
 
 /// The states of rows, in `width` words each, by the numbers of their table's atoms.
@@ -62,10 +59,8 @@ pub(crate) fn pack_rows(
     let mut words = Vec::with_capacity(alloc, rows.len().saturating_mul(width))?;
     let mut known = Vec::with_capacity(alloc, rows.len())?;
     let mut state = State::from_words(List::from_vec(vec![in alloc; 0u64; width]?));
-    let mut atoms = Vec::new(alloc);
     for place in 0..rows.len() {
-        let is_known = put_numbers(numbers, rows.row(place).atoms, &mut atoms)?;
-        state_of_atoms(atoms.as_slice(), &mut state);
+        let is_known = put_atoms(numbers, rows.row(place).atoms, &mut state);
         words.extend_from_slice(state.words())?;
         known.push(is_known)?;
     }

@@ -3,46 +3,29 @@
 use crate::row_table::RowTable;
 use ground_model::State;
 use ground_step::is_goal;
-use row_check::Reading;
+use row_check::{Bounds, Reading};
 
-/// The lower values: that of the state's row, 0 without a row.
-#[derive(Drop)]
-pub(crate) struct Lower<'t, 'a> {
-    pub table: &'t RowTable<'a>,
-}
+/// The values of a state's row. Without a row the lower value is 0 and the upper one the penalty; at a goal
+/// the upper value is 0.
+impl<'a> Reading for RowTable<'a> {
+    ghost use Rattle.certificate_check.specs.Claims.{low_in, high_in};
 
-impl<'t, 'a> Reading for Lower<'t, 'a> {
-    ghost use Rattle.certificate_check.specs.Claims.{low_in};
+    ghost low = { λ t s. low_in t.problem t.certificate s };
 
-    ghost value = { λ r s. low_in r.table.now.problem r.table.now.certificate s };
+    ghost high = { λ t s. high_in t.problem t.certificate s };
 
-    fn read(&self, state: &State) -> u64 {
-        match self.table.values(state.words()) {
-            None => 0,
-            Some(values) => values.lower,
-        }
-    }
-}
-
-/// The upper values: 0 at a goal, elsewhere that of the state's row, the penalty without a row.
-#[derive(Drop)]
-pub(crate) struct Upper<'t, 'a> {
-    pub table: &'t RowTable<'a>,
-}
-
-impl<'t, 'a> Reading for Upper<'t, 'a> {
-    ghost use Rattle.certificate_check.specs.Claims.{high_in};
-
-    ghost value = { λ r s. high_in r.table.now.problem r.table.now.certificate s };
-
-    fn read(&self, state: &State) -> u64 {
-        let problem = self.table.rows().problem();
+    fn read(&self, state: &State) -> Bounds {
+        let problem = self.rows().problem();
+        let bounds = self.bounds(state.words()).unwrap_or(Bounds {
+            lower: 0,
+            upper: problem.penalty(),
+        });
         if is_goal(problem, state) {
-            return 0;
+            return Bounds {
+                lower: bounds.lower,
+                upper: 0,
+            };
         }
-        match self.table.values(state.words()) {
-            None => problem.penalty(),
-            Some(values) => values.upper,
-        }
+        bounds
     }
 }

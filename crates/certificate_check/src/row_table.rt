@@ -1,26 +1,20 @@
-//! The values of states, by hash.
+//! The bounds of states, by hash.
 
 ghost use Rattle.std.specs.Prelude.{◌+◌, ◌<◌, length, OnOk};
 ghost use Rattle.certificate_check.specs.GroundRows.{HasFrom, by_state};
 
 use crate::ground_rows::GroundRows;
+use row_check::Bounds;
 use std::alloc::{AllocError, Global};
 use std::collections::HashMap;
 use std::marker::Model;
 
-/// The lower and the upper value of a row.
-#[derive(Clone, Copy, Drop)]
-pub(crate) struct Values {
-    pub lower: u64,
-    pub upper: u64,
-}
-
-/// A hash table from the states of a certificate's rows to their values. Contracts see the problem and the
-/// certificate.
+/// A hash table from the states of a certificate's rows to their lower and upper values. Contracts see the
+/// problem and the certificate.
 #[derive(Drop)]
 pub(crate) struct RowTable<'a> {
     rows: &'a GroundRows<'a>,
-    entries: HashMap<&'a [u64], Values>,
+    entries: HashMap<&'a [u64], Bounds>,
 }
 
 impl<'a> Model for RowTable<'a> {
@@ -37,12 +31,12 @@ impl<'a> Model for RowTable<'a> {
     ghost invariant = { λ t. HasFrom t.rows.now 0 (by_state t.entries.entries (λ k. k.now)) };
 }
 
-/// Puts the values of the row in this place beside those of the rows behind it, if the problem has its
+/// Puts the bounds of the row in this place beside those of the rows behind it, if the problem has its
 /// atoms.
 fn put_row<'a>(
     rows: &'a GroundRows<'a>,
     place: usize,
-    entries: &mut HashMap<&'a [u64], Values>,
+    entries: &mut HashMap<&'a [u64], Bounds>,
 ) -> Result<(), AllocError>
     requires { place < length rows.now.certificate.rows }
     ensures { OnOk result (HasFrom rows.now (place + 1) (by_state entries.old.entries (λ k. k.now))
@@ -52,11 +46,11 @@ fn put_row<'a>(
     if !rows.knows(place) {
         return Ok(());
     }
-    let values = Values {
+    let bounds = Bounds {
         lower: row.lower,
         upper: row.upper,
     };
-    match entries.insert(rows.state(place), values) {
+    match entries.insert(rows.state(place), bounds) {
         Ok(_) => Ok(()),
         Err(_) => Err(AllocError),
     }
@@ -64,7 +58,7 @@ fn put_row<'a>(
 
 impl<'a> RowTable<'a> {
     ghost use Rattle.std.specs.Prelude.{◌≡◌, IfOk};
-    ghost use Rattle.certificate_check.specs.GroundRows.{values_in};
+    ghost use Rattle.certificate_check.specs.GroundRows.{bounds_in};
 
     /// The table of these rows. It is refused for want of memory alone.
     pub(crate) fn new(alloc: Global, rows: &'a GroundRows<'a>) -> Result<Self, AllocError>
@@ -86,9 +80,9 @@ impl<'a> RowTable<'a> {
         self.rows
     }
 
-    /// The values of the row of a state, if it has one.
-    pub(crate) fn values(&self, state: &[u64]) -> Option<Values>
-        ensures { result ≡ values_in self.now state.now }
+    /// The lower and the upper value of a state's row, if it has one.
+    pub(crate) fn bounds(&self, state: &[u64]) -> Option<Bounds>
+        ensures { result ≡ bounds_in self.now state.now }
     {
         self.entries.get(state).copied()
     }

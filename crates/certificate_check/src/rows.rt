@@ -65,10 +65,9 @@ fn verdict_of(fault: Fault, row: u32) -> Verdict
 }
 
 /// What is wrong with the row in this place, if anything.
-fn row_verdict<L: Reading, H: Reading>(
+fn row_verdict<R: Reading>(
     index: &OpenActions<'_>,
-    low: &L,
-    high: &H,
+    reading: &R,
     rows: &GroundRows<'_>,
     place: usize,
     room: &mut Room,
@@ -76,7 +75,7 @@ fn row_verdict<L: Reading, H: Reading>(
     requires problem { index.now ≡ rows.now.problem }
     requires place { place < length rows.now.certificate.rows }
     requires room { HasRoomFor rows.now.problem room.old }
-    ensures verdict { TellsOfRow rows.now (L.value low.now) (H.value high.now) place result }
+    ensures verdict { TellsOfRow rows.now (R.low reading.now) (R.high reading.now) place result }
     ensures room { HasRoomFor rows.now.problem room.new }
 {
     let claimed = rows.certificate().rows().row(place);
@@ -93,24 +92,23 @@ fn row_verdict<L: Reading, H: Reading>(
         upper: claimed.upper,
         act,
     };
-    let fault = row_fault(index, low, high, &room.state, claim, &mut room.scratch)?;
+    let fault = row_fault(index, reading, &room.state, claim, &mut room.scratch)?;
     Some(verdict_of(fault, row))
 }
 
 /// What is wrong with the first row that is not right, if there is one.
-pub(crate) fn rows_verdict<L: Reading, H: Reading>(
+pub(crate) fn rows_verdict<R: Reading>(
     index: &OpenActions<'_>,
-    low: &L,
-    high: &H,
+    reading: &R,
     rows: &GroundRows<'_>,
     room: &mut Room,
 ) -> Option<Verdict>
     requires problem { index.now ≡ rows.now.problem }
     requires room { HasRoomFor rows.now.problem room.old }
-    ensures { TellsOfRows rows.now (L.value low.now) (H.value high.now) result }
+    ensures { TellsOfRows rows.now (R.low reading.now) (R.high reading.now) result }
 {
     for place in 0..rows.certificate().rows().len() {
-        if let Some(verdict) = row_verdict(index, low, high, rows, place, room) {
+        if let Some(verdict) = row_verdict(index, reading, rows, place, room) {
             return Some(verdict);
         }
     }

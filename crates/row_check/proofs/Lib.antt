@@ -1,3 +1,4 @@
-pub mod Totals
+pub mod FirstFault
 pub mod Open
 pub mod Rows
+pub mod Totals

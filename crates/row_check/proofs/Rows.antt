@@ -1,11 +1,11 @@
--- What one action says of a row.
-use Rattle.std.proofs.Common.{◌≡◌, ℕ, ◌+◌, ◌*◌, ◌<◌, ◌≤◌, ◌^◌, false, List, length, take, Some, refl, sym, subst, inl, inr, ◌∙◌, arith, true≢false, get_or}
-use Rattle.std.specs.Prelude.{Contains, IsTrue, nat_le}
-use Rattle.std.proofs.lemmas.Bool.{le-leb, leb-true}
+-- What a pass over the open actions says of a row.
+--     HoldAmong g low high s claim codes c
+--                          the conditions, as far as the open actions with these codes say
+use Rattle.std.proofs.Common.{◌≡◌, ℕ, ◌+◌, ◌*◌, ◌<◌, ◌≤◌, Bool, true, false, List, [], ◌∷◌, ◌++◌, length, Some, refl, sym, subst, inl, inr, ◌∙◌, true≢false, get_or}
+use Rattle.std.specs.Prelude.{◌↔◌, ◌&&◌, Contains, IsTrue, nat_le}
 use Rattle.std.specs.List.{slice_get}
-use Rattle.std.proofs.Math.Nat.{mul-le-mul_left}
-use Rattle.std.proofs.lemmas.List.{take_more}
-use Rattle.std.proofs.lemmas.List.Elements.{All-get_or, Contains-get_or, Contains-push_cases}
+use Rattle.std.proofs.lemmas.Bool.{le-leb, leb-true, and_parts, and_from}
+use Rattle.std.proofs.lemmas.List.Elements.{All-get_or, Contains-get_or, Contains-append_left, Contains-push, Contains-push_cases}
 use Rattle.std.proofs.lemmas.Option.{slice_get_read}
 use Rattle.decision_process.specs.Backup.{action_value}
 use Rattle.ground_model.specs.declared.action.GroundAction.{GroundAction}
@@ -15,97 +15,179 @@ use Rattle.ground_model.specs.Invariant.{IsAction, IsGroundProblem}
 use Rattle.ground_model.specs.Steps.{ground_process, own_action_value}
 use Rattle.ground_model.proofs.OwnDen.{lower_by_own_den, upper_by_own_den}
 use Rattle.row_check.specs.declared.act.Act.{Act}
-use Rattle.row_check.specs.declared.act.Act.TheVariants.{Do}
-use Rattle.row_check.specs.Faults.{IsRight, UpperFollows, AllAllow}
-use Rattle.row_check.proofs.Open.{open_within, chosen_is_open}
+use Rattle.row_check.specs.declared.act.Act.TheVariants.{GiveUp, Goal, Do}
+use Rattle.row_check.specs.declared.claim.Claim.{Claim}
+use Rattle.row_check.specs.declared.conditions.Conditions.{Conditions}
+use Rattle.row_check.specs.Faults.{IsRight, UpperFollows, AreConditions}
 
-pub product_fits : (value den : ℕ) → value < 2 ^ 64 → den < 2 ^ 64 → value * den < 2 ^ 128
-product_fits value den small small' =
-    let within : den ≤ 18446744073709551615 = omega (arith, small') in
-    let most : value * den ≤ value * 18446744073709551615 = mul-le-mul_left value within in
-    omega (arith, small, most)
+pub action_is : (g : Ground) → IsGroundProblem g → (k : ℕ) (a : GroundAction) → k < length g.actions → a ≡ get_or g.actions k a
+    → IsAction (length g.atoms) a
+action_is g is k a within read =
+    subst (IsAction (length g.atoms)) (sym read) (All-get_or (IsAction (length g.atoms)) g.actions k a within is.actions)
 
-module _ (g : Ground) (is : IsGroundProblem g) where
-  pub code_within : (s : State) (k : ℕ) → Contains ((ground_process g).choices s) k → k < length g.actions
-  code_within s k chosen = open_within g.actions k s (chosen_is_open g s k chosen)
+pub listed : (codes choices : List ℕ) (i : ℕ) → codes ≡ choices → i < length codes → Contains choices (get_or codes i 0)
+listed codes choices i same within = subst (λ (xs : List ℕ). Contains xs (get_or codes i 0)) same (Contains-get_or codes i 0 within)
 
-  pub action_is : (k : ℕ) (a : GroundAction) → k < length g.actions → a ≡ get_or g.actions k a → IsAction (length g.atoms) a
-  action_is k a within read =
-      subst (IsAction (length g.atoms)) (sym read) (All-get_or (IsAction (length g.atoms)) g.actions k a within is.actions)
+-- a test of numbers that are equal to others
+tested : (m n x y : ℕ) → m ≡ x → n ≡ y → IsTrue (nat_le m n) ↔ (x ≤ y)
+tested m n x y same same' = (
+  (λ test. subst (λ z. z ≤ y) same (subst (λ z. m ≤ z) same' (leb-true m n test))),
+  (λ below. le-leb m n (subst (λ z. z ≤ n) (sym same) (subst (λ z. x ≤ z) (sym same') below))),
+)
 
-  found : (k : ℕ) (a : GroundAction) → k < length g.actions → a ≡ get_or g.actions k a → slice_get g.actions k ≡ Some a
-  found k a within read = slice_get_read g.actions (length g.actions) k a refl within read
+earlier : (codes : List ℕ) (k j : ℕ) → (k ≡ j → ⊥) → Contains (codes ++ k ∷ []) j → Contains codes j
+earlier codes k j other member = elim (Contains-push_cases codes k j member) [
+  | inl before ↦ before
+  | inr last ↦ absurd (other last)
+]
 
-  module _ (v : State → ℕ) (s : State) (k : ℕ) (a : GroundAction) (within : k < length g.actions) (read : a ≡ get_or g.actions k a) where
-    pub allows : (value : ℕ) → value * a.den ≤ own_action_value v a s
-        → value * (ground_process g).den ≤ action_value (ground_process g) v k s
-    allows value own = (lower_by_own_den g is v k a s value (found k a within read)).1 own
+module _ (g : Ground) (low high : State → ℕ) (s : State) where
+  abbrev pub IsWithinStep : ℕ → ℕ → Type 0
+  IsWithinStep value k = value * (ground_process g).den ≤ action_value (ground_process g) low k s
 
-    pub allowed : (value : ℕ) → value * (ground_process g).den ≤ action_value (ground_process g) v k s
-        → value * a.den ≤ own_action_value v a s
-    allowed value all = (lower_by_own_den g is v k a s value (found k a within read)).0 all
+  abbrev pub CoversStep : ℕ → ℕ → Type 0
+  CoversStep value k = action_value (ground_process g) high k s ≤ value * (ground_process g).den
 
-    pub upper_do : (act : Act) (value : ℕ) → act ≡ Do k → IsRight (ground_process g) s act
-        → ((own_action_value v a s ≤ value * a.den → UpperFollows (ground_process g) v s act value)
-        × (UpperFollows (ground_process g) v s act value → own_action_value v a s ≤ value * a.den))
-    upper_do act value same right =
-        let at : (ground_process g).goal s ≡ false × Contains ((ground_process g).choices s) k
-        = subst (IsRight (ground_process g) s) same right in
-        let law = upper_by_own_den g is v k a s value (found k a within read) in
-        subst
-        (λ x. (own_action_value v a s ≤ value * a.den → UpperFollows (ground_process g) v s x value)
-        × (UpperFollows (ground_process g) v s x value → own_action_value v a s ≤ value * a.den)) (sym same) (
-          (λ own. record {
-            at_goal = λ goal. absurd (true≢false (sym goal ∙ at.0));
-            follows = record {
-              covers_quit = λ off none. absurd cc;
-              is_open = λ j off chosen. subst (Contains ((ground_process g).choices s)) (cc chosen) at.1;
-              covers_step = λ j off chosen.
-                  subst (λ i. action_value (ground_process g) v i s ≤ value * (ground_process g).den) (cc chosen) (law.1 own);
-            };
-          }),
-          (λ follows. law.0 (follows.follows.covers_step k at.0 refl)),
-        )
+  abbrev pub ActAmong : Act → List ℕ → Bool → Type 0
+  ActAmong GiveUp codes b = IsTrue b
+  ActAmong Goal codes b = b ≡ false
+  ActAmong (Do k) codes b = IsTrue b ↔ Contains codes k
 
-    -- the same by a test of the code
-    pub upper_tested : (act : Act) (value sum x y : ℕ) → act ≡ Do k → IsRight (ground_process g) s act
-        → sum ≡ own_action_value v a s → x ≡ value → y ≡ a.den
-        → (IsTrue (nat_le sum (x * y)) → UpperFollows (ground_process g) v s act value)
-        × (UpperFollows (ground_process g) v s act value → IsTrue (nat_le sum (x * y)))
-    upper_tested act value sum x y same right sum_is x_is y_is =
-        let law = upper_do act value same right in
-        let product : x * y ≡ value * a.den = λ i. x_is i * y_is i in (
-          (λ test. law.0 (subst (λ n. n ≤ value * a.den) sum_is (subst (λ n. sum ≤ n) product (leb-true sum (x * y) test)))),
-          (λ follows. le-leb sum (x * y)
-              (subst (λ n. sum ≤ n) (sym product) (subst (λ n. n ≤ value * a.den) (sym sum_is) (law.1 follows)))),
-        )
+  pub record IsLowerAmong (value : ℕ) (codes : List ℕ) : Type 0 where
+    pub within_quit : value ≤ g.penalty
+    pub within_step : (k : ℕ) → Contains codes k → IsWithinStep value k
 
-    -- an action that gives less than the value forbids it
-    pub forbids : (value sum x y : ℕ) → sum ≡ own_action_value v a s → x ≡ value → y ≡ a.den → sum < x * y
-        → AllAllow (ground_process g) v s value → Contains ((ground_process g).choices s) k → ⊥
-    forbids value sum x y sum_is x_is y_is less all chosen =
-        let product : x * y ≡ value * a.den = λ i. x_is i * y_is i in
-        let own : value * a.den ≤ own_action_value v a s = allowed value (all k chosen) in
-        omega (arith, less, product, own, sum_is)
+  abbrev pub UpperAmong : Act → ℕ → List ℕ → Bool → Type 0
+  UpperAmong GiveUp value codes b = IsTrue b ↔ (g.penalty ≤ value)
+  UpperAmong Goal value codes b = Unit {0}
+  UpperAmong (Do k) value codes b = Contains codes k → (IsTrue b ↔ CoversStep value k)
 
-    pub allows_by : (value sum x y : ℕ) → sum ≡ own_action_value v a s → x ≡ value → y ≡ a.den → x * y ≤ sum
-        → value * (ground_process g).den ≤ action_value (ground_process g) v k s
-    allows_by value sum x y sum_is x_is y_is within_sum =
-        let product : x * y ≡ value * a.den = λ i. x_is i * y_is i in
-        allows value (subst (λ n. n ≤ own_action_value v a s) product (subst (λ n. x * y ≤ n) sum_is within_sum))
+  pub record HoldAmong (claim : Claim) (codes : List ℕ) (c : Conditions) : Type 0 where
+    pub act : ActAmong claim.act codes c.act
+    pub lower : IsTrue c.lower ↔ IsLowerAmong claim.lower codes
+    pub upper : UpperAmong claim.act claim.upper codes c.upper
 
-  -- ---- the codes so far
+  -- ---- one action more
 
-  pub allow_more : (v : State → ℕ) (s : State) (value : ℕ) (codes : List ℕ) (i : ℕ) → i < length codes
-      → ((k : ℕ) → Contains (take i codes) k → value * (ground_process g).den ≤ action_value (ground_process g) v k s)
-      → value * (ground_process g).den ≤ action_value (ground_process g) v (get_or codes i 0) s
-      → (k : ℕ) → Contains (take (i + 1) codes) k → value * (ground_process g).den ≤ action_value (ground_process g) v k s
-  allow_more v s value codes i within so_far here k member =
-      elim (Contains-push_cases (take i codes) (get_or codes i 0) k
-      (subst (λ (xs : List ℕ). Contains xs k) (take_more codes i 0 within) member)) [
-        | inl before ↦ so_far k before
-        | inr last ↦ subst (λ j. value * (ground_process g).den ≤ action_value (ground_process g) v j s) last here
-      ]
+  act_kept : (act : Act) (codes : List ℕ) (k : ℕ) (b : Bool) → (act ≡ Do k → ⊥) → ActAmong act codes b → ActAmong act (codes ++ k ∷ []) b
+  act_kept GiveUp codes k b other so_far = so_far
+  act_kept Goal codes k b other so_far = so_far
+  act_kept (Do j) codes k b other so_far = (
+    (λ holds. Contains-append_left codes (k ∷ []) j (so_far.0 holds)),
+    (λ member. so_far.1 (earlier codes k j (λ same. other (λ i. Do (sym same i))) member)),
+  )
 
-  pub listed : (codes choices : List ℕ) (i : ℕ) → codes ≡ choices → i < length codes → Contains choices (get_or codes i 0)
-  listed codes choices i same within = subst (λ (xs : List ℕ). Contains xs (get_or codes i 0)) same (Contains-get_or codes i 0 within)
+  upper_kept : (act : Act) (value : ℕ) (codes : List ℕ) (k : ℕ) (b : Bool) → (act ≡ Do k → ⊥) → UpperAmong act value codes b
+      → UpperAmong act value (codes ++ k ∷ []) b
+  upper_kept GiveUp value codes k b other so_far = so_far
+  upper_kept Goal value codes k b other so_far = tt
+  upper_kept (Do j) value codes k b other so_far =
+      λ member. so_far (earlier codes k j (λ same. other (λ i. Do (sym same i))) member)
+
+  lower_more : (value : ℕ) (codes : List ℕ) (k : ℕ) (b t : Bool) → (IsTrue b ↔ IsLowerAmong value codes)
+      → (IsTrue t ↔ IsWithinStep value k) → IsTrue (b && t) ↔ IsLowerAmong value (codes ++ k ∷ [])
+  lower_more value codes k b t so_far here = (
+    (λ holds.
+        let parts = and_parts b t holds in
+        record {
+          within_quit = (so_far.0 parts.0).within_quit;
+          within_step = λ j member. elim (Contains-push_cases codes k j member) [
+            | inl before ↦ (so_far.0 parts.0).within_step j before
+            | inr last ↦ subst (IsWithinStep value) last (here.0 parts.1)
+          ];
+        }),
+    (λ is.
+        and_from b t
+        (so_far.1 (record {
+          within_quit = is.within_quit;
+          within_step = λ j member. is.within_step j (Contains-append_left codes (k ∷ []) j member);
+        }))
+        (here.1 (is.within_step k (Contains-push codes k)))),
+  )
+
+  module _ (claim : Claim) (codes : List ℕ) (k : ℕ) (c : Conditions) (so_far : HoldAmong claim codes c)
+      (t : Bool) (here : IsTrue t ↔ IsWithinStep claim.lower k) where
+    pub hold_with_own : (u : Bool) → claim.act ≡ Do k → (IsTrue u ↔ CoversStep claim.upper k)
+        → HoldAmong claim (codes ++ k ∷ []) (record { act = true; lower = c.lower && t; upper = u })
+    hold_with_own u is covers = record {
+      act = subst (λ act. ActAmong act (codes ++ k ∷ []) true) (sym is) ((λ _. Contains-push codes k), (λ _. refl));
+      lower = lower_more claim.lower codes k c.lower t so_far.lower here;
+      upper = subst (λ act. UpperAmong act claim.upper (codes ++ k ∷ []) u) (sym is) (λ _. covers);
+    }
+
+    pub hold_with_other : (claim.act ≡ Do k → ⊥)
+        → HoldAmong claim (codes ++ k ∷ []) (record { act = c.act; lower = c.lower && t; upper = c.upper })
+    hold_with_other other = record {
+      act = act_kept claim.act codes k c.act other so_far.act;
+      lower = lower_more claim.lower codes k c.lower t so_far.lower here;
+      upper = upper_kept claim.act claim.upper codes k c.upper other so_far.upper;
+    }
+
+  -- ---- all actions
+
+  module _ (off : (ground_process g).goal s ≡ false) where
+    right_of_all : (act : Act) (b : Bool) → ActAmong act ((ground_process g).choices s) b → IsTrue b ↔ IsRight (ground_process g) s act
+    right_of_all GiveUp b all = ((λ _. off), (λ _. all))
+    right_of_all Goal b all = ((λ holds. absurd (true≢false (sym holds ∙ all))), (λ goal. absurd (true≢false (sym goal ∙ off))))
+    right_of_all (Do k) b all = ((λ holds. (off, all.0 holds)), (λ right. all.1 right.1))
+
+    upper_of_all : (act : Act) (value : ℕ) (b : Bool) → UpperAmong act value ((ground_process g).choices s) b
+        → IsRight (ground_process g) s act → IsTrue b ↔ UpperFollows (ground_process g) high s act value
+    upper_of_all GiveUp value b all right = (
+      (λ holds. record {
+        at_goal = λ goal. absurd (true≢false (sym goal ∙ off));
+        follows = record {
+          covers_quit = λ _ _. all.0 holds;
+          is_open = λ k _ is. absurd cc;
+          covers_step = λ k _ is. absurd cc;
+        };
+      }),
+      (λ follows. all.1 (follows.follows.covers_quit off refl)),
+    )
+    upper_of_all Goal value b all right = absurd (true≢false (sym right ∙ off))
+    upper_of_all (Do k) value b all right = (
+      (λ holds. record {
+        at_goal = λ goal. absurd (true≢false (sym goal ∙ off));
+        follows = record {
+          covers_quit = λ _ none. absurd cc;
+          is_open = λ j _ is. subst (Contains ((ground_process g).choices s)) (cc is) right.1;
+          covers_step = λ j _ is. subst (CoversStep value) (cc is) ((all right.1).0 holds);
+        };
+      }),
+      (λ follows. (all right.1).1 (follows.follows.covers_step k off refl)),
+    )
+
+    pub hold_for_all : (claim : Claim) (c : Conditions) → HoldAmong claim ((ground_process g).choices s) c
+        → AreConditions (ground_process g) low high s claim c
+    hold_for_all claim c all = record {
+      act = right_of_all claim.act c.act all.act;
+      lower = (
+        (λ holds. record {
+          at_goal = λ goal. absurd (true≢false (sym goal ∙ off));
+          within_quit = λ _. (all.lower.0 holds).within_quit;
+          within_step = λ k _ chosen. (all.lower.0 holds).within_step k chosen;
+        }),
+        (λ follows. all.lower.1 (record { within_quit = follows.within_quit off; within_step = λ k chosen. follows.within_step k off chosen })),
+      );
+      upper = upper_of_all claim.act claim.upper c.upper all.upper;
+    }
+
+-- ---- tests of an action by its own denominator
+
+module _ (g : Ground) (is : IsGroundProblem g) (v : State → ℕ) (s : State) (k : ℕ) (a : GroundAction)
+    (within : k < length g.actions) (read : a ≡ get_or g.actions k a) (value sum x y : ℕ)
+    (sum_is : sum ≡ own_action_value v a s) (x_is : x ≡ value) (y_is : y ≡ a.den) where
+  found : slice_get g.actions k ≡ Some a
+  found = slice_get_read g.actions (length g.actions) k a refl within read
+
+  pub lower_tested : IsTrue (nat_le (x * y) sum) ↔ (value * (ground_process g).den ≤ action_value (ground_process g) v k s)
+  lower_tested =
+      let own = tested (x * y) sum (value * a.den) (own_action_value v a s) (λ i. x_is i * y_is i) sum_is in
+      let law = lower_by_own_den g is v k a s value found in
+      ((λ test. law.1 (own.0 test)), (λ all. own.1 (law.0 all)))
+
+  pub upper_tested : IsTrue (nat_le sum (x * y)) ↔ (action_value (ground_process g) v k s ≤ value * (ground_process g).den)
+  upper_tested =
+      let own = tested sum (x * y) (own_action_value v a s) (value * a.den) sum_is (λ i. x_is i * y_is i) in
+      let law = upper_by_own_den g is v k a s value found in
+      ((λ test. law.1 (own.0 test)), (λ all. own.1 (law.0 all)))

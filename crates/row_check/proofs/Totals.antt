@@ -11,7 +11,7 @@ use Rattle.decision_process.specs.Process.{at_starts}
 use Rattle.decision_process.specs.Process.{Start as ProcessStart}
 use Rattle.ground_model.specs.declared.start.Start.{Start}
 use Rattle.ground_model.specs.Ground.{Ground}
-use Rattle.ground_model.specs.Steps.{start_of, ground_starts}
+use Rattle.ground_model.specs.Steps.{start_of, ground_starts, own_action_value}
 use Rattle.ground_model.specs.Packed.{State, has_bit}
 use Rattle.ground_model.specs.Choices.{cost_of, next_state}
 use Rattle.ground_step.proofs.Outcomes.{cost_within}
@@ -45,13 +45,19 @@ turn_within sum before w cost value bound small fits =
 pub bound_fits : (sum weights : ℕ) → sum ≤ weights * 18446754073709551616 → weights ≤ 1000000000000000000 → sum < 2 ^ 128
 bound_fits sum weights bound few = omega (arith, bound, few)
 
--- ---- a turn of the loop over the choices of an action
+-- ---- the choices of an action
 
-module _ (n : ℕ) (a : GroundAction) (is : IsAction n a) (v : State → ℕ) (s next : State) (items : List Choice)
-    (same : items ≡ a.choices) (i : ℕ) (c : Choice) (within : i < length items) (read : c ≡ get_or items i c) where
-  abbrev value_of : Choice → ℕ
-  value_of d = d.weight * (cost_of (has_bit s) d + v (next_state s d))
+module _ (v : State → ℕ) (s : State) where
+  abbrev pub value_of : Choice → ℕ
+  value_of c = c.weight * (cost_of (has_bit s) c + v (next_state s c))
 
+  -- the sum over the first i choices, and how large it can be
+  pub record IsCostOf (items : List Choice) (i sum : ℕ) : Type 0 where
+    pub is : sum ≡ total value_of (take i items)
+    pub bound : sum ≤ total (λ (c : Choice). c.weight) (take i items) * 18446754073709551616
+
+module _ (n : ℕ) (a : GroundAction) (is : IsAction n a) (s : State) (items : List Choice) (same : items ≡ a.choices)
+    (i : ℕ) (c : Choice) (within : i < length items) (read : c ≡ get_or items i c) where
   abbrev weight_of : Choice → ℕ
   weight_of d = d.weight
 
@@ -63,44 +69,56 @@ module _ (n : ℕ) (a : GroundAction) (is : IsAction n a) (v : State → ℕ) (s
   weights_few =
       omega (arith, total_part weight_of items (i + 1), ap (total weight_of) same, is.weights.sum, is.weights.den_within)
 
-  module _ (sum w cost value : ℕ) (w_is : w ≡ c.weight) (cost_is : cost ≡ cost_of (has_bit s) c) (value_is : value ≡ v next)
-      (next_is : next ≡ next_state s c) (small : value < 2 ^ 64) (sum_is : sum ≡ total value_of (take i items))
-      (bound : sum ≤ total weight_of (take i items) * 18446754073709551616) where
-    pub turn_bound : sum + w * (cost + value) ≤ total weight_of (take (i + 1) items) * 18446754073709551616
+  module _ (v : State → ℕ) (next : State) (sum w cost value : ℕ) (w_is : w ≡ c.weight)
+      (cost_is : cost ≡ cost_of (has_bit s) c) (next_is : next ≡ next_state s c) (value_is : value ≡ v next)
+      (small : value < 2 ^ 64) (so_far : IsCostOf v s items i sum) where
+    turn_bound : sum + w * (cost + value) ≤ total weight_of (take (i + 1) items) * 18446754073709551616
     turn_bound =
         let cheap : cost ≤ 10000000000000 = omega (arith, cost_is, cost_within n c turn_choice (has_bit s)) in
         let more : total weight_of (take (i + 1) items) ≡ total weight_of (take i items) + w
         = total_more weight_of items i c within read ∙ ap (λ x. total weight_of (take i items) + x) (sym w_is) in
         subst (λ x. sum + w * (cost + value) ≤ x * 18446754073709551616) (sym more)
-        (turn_within sum (total weight_of (take i items)) w cost value bound cheap small)
+        (turn_within sum (total weight_of (take i items)) w cost value so_far.bound cheap small)
 
     pub turn_fits : sum + w * (cost + value) < 2 ^ 128
     turn_fits = bound_fits (sum + w * (cost + value)) (total weight_of (take (i + 1) items)) turn_bound weights_few
 
-    pub turn_sum : sum + w * (cost + value) ≡ total value_of (take (i + 1) items)
-    turn_sum =
-        (λ j. sum_is j + w_is j * (cost_is j + (value_is ∙ ap v next_is) j))
-        ∙ sym (total_more value_of items i c within read)
+    pub turn_cost : IsCostOf v s items (i + 1) (sum + w * (cost + value))
+    turn_cost = record {
+      is = (λ j. so_far.is j + w_is j * (cost_is j + (value_is ∙ ap v next_is) j))
+          ∙ sym (total_more (value_of v s) items i c within read);
+      bound = turn_bound;
+    }
 
--- ---- a turn of the loop over the initial states
+pub cost_all : (v : State → ℕ) (a : GroundAction) (s : State) (items : List Choice) (i sum : ℕ) → items ≡ a.choices → length items ≤ i
+    → IsCostOf v s items i sum → sum ≡ own_action_value v a s
+cost_all v a s items i sum same past so_far =
+    so_far.is ∙ ap (total (value_of v s)) (take_all i items past ∙ same)
 
-module _ (g : Ground) (is : IsGroundProblem g) (v : State → ℕ) (items : List Start) (same : items ≡ g.starts) (i : ℕ) (x : Start)
+-- ---- the initial states
+
+module _ (v : State → ℕ) where
+  abbrev pub start_value : Start → ℕ
+  start_value x = x.weight * v x.state
+
+  -- the sum over the first i initial states, and how large it can be
+  pub record IsValueOf (items : List Start) (i sum : ℕ) : Type 0 where
+    pub is : sum ≡ total start_value (take i items)
+    pub bound : sum ≤ total (λ (x : Start). x.weight) (take i items) * 18446744073709551615
+
+module _ (g : Ground) (is : IsGroundProblem g) (items : List Start) (same : items ≡ g.starts) (i : ℕ) (x : Start)
     (within : i < length items) (read : x ≡ get_or items i x) where
-  abbrev start_value : Start → ℕ
-  start_value y = y.weight * v y.state
-
   abbrev start_weight : Start → ℕ
   start_weight y = y.weight
 
-  module _ (sum w value : ℕ) (w_is : w ≡ x.weight) (value_is : value ≡ v x.state) (small : value < 2 ^ 64)
-      (sum_is : sum ≡ total start_value (take i items))
-      (bound : sum ≤ total start_weight (take i items) * 18446744073709551615) where
-    pub start_bound : sum + w * value ≤ total start_weight (take (i + 1) items) * 18446744073709551615
+  module _ (v : State → ℕ) (sum w value : ℕ) (w_is : w ≡ x.weight) (value_is : value ≡ v x.state) (small : value < 2 ^ 64)
+      (so_far : IsValueOf v items i sum) where
+    start_bound : sum + w * value ≤ total start_weight (take (i + 1) items) * 18446744073709551615
     start_bound =
         let most : value ≤ 18446744073709551615 = omega (arith, small) in
         let more : total start_weight (take (i + 1) items) ≡ total start_weight (take i items) + w
         = total_more start_weight items i x within read ∙ ap (λ n. total start_weight (take i items) + n) (sym w_is) in
-        omega (arith, bound, more, mul-le-mul_left w most)
+        omega (arith, so_far.bound, more, mul-le-mul_left w most)
 
     pub start_fits : sum + w * value < 2 ^ 128
     start_fits =
@@ -113,12 +131,14 @@ module _ (g : Ground) (is : IsGroundProblem g) (v : State → ℕ) (items : List
           is.starts_weights.den_within,
         )
 
-    pub start_more : sum + w * value ≡ total start_value (take (i + 1) items)
-    start_more =
-        (λ j. sum_is j + w_is j * value_is j) ∙ sym (total_more start_value items i x within read)
+    pub start_more : IsValueOf v items (i + 1) (sum + w * value)
+    start_more = record {
+      is = (λ j. so_far.is j + w_is j * value_is j) ∙ sym (total_more (start_value v) items i x within read);
+      bound = start_bound;
+    }
 
 pub start_total : (g : Ground) (v : State → ℕ) (items : List Start) (i sum : ℕ) → items ≡ g.starts → length items ≤ i
-    → sum ≡ total (λ (y : Start). y.weight * v y.state) (take i items) → sum ≡ at_starts v (ground_starts g)
-start_total g v items i sum same past is =
-    is ∙ ap (total (λ (y : Start). y.weight * v y.state)) (take_all i items past ∙ same)
+    → IsValueOf v items i sum → sum ≡ at_starts v (ground_starts g)
+start_total g v items i sum same past so_far =
+    so_far.is ∙ ap (total (start_value v)) (take_all i items past ∙ same)
     ∙ sym (total-map (λ (y : ProcessStart State). y.weight * v y.state) start_of g.starts)

@@ -2,17 +2,19 @@
 --     IsRight p s act            the act ends at goals alone, and takes an open action
 --     UpperFollows p high s act value
 --                                the upper value is 0 at a goal, and follows from those of the next states
---     AllAllow p low s value     no open action gives less than the lower value
 --     IsIntervalOf g low high lower upper
 --                                the interval of the initial states
 --     start_sum g v              the sum of the weights of the initial states times their values
 --     HasRoom g s scratch        the scratch has a state as long as s, and room for all actions
+--     AreConditions p low high s claim c
+--                                which of the conditions hold: the act, the lower value and, of an act that is right, the upper value
+--     first_fault c              the first that does not
 --     IsFirstFault p low high s claim fault
 --                                which condition fails first, if any: the act, the lower value, the upper value
---     IsFault g ..               of the process of a ground problem
-use Rattle.std.specs.Prelude.{◌≡◌, ℕ, ◌*◌, ◌<◌, ◌≤◌, ◌^◌, length, true, false, Option, Some, None, Contains}
+--     HaveConditions, IsFault g ..
+--                                of the process of a ground problem
+use Rattle.std.specs.Prelude.{◌≡◌, ◌↔◌, ℕ, ◌*◌, ◌<◌, ◌≤◌, ◌^◌, length, true, false, cond, Option, Some, None, Contains, IsTrue}
 use Rattle.decision_process.specs.Process.{Process, at_starts}
-use Rattle.decision_process.specs.Backup.{action_value}
 use Rattle.decision_process.specs.Balanced.{IsInterval}
 use Rattle.decision_process.specs.Following.{IsLowerFrom, IsUpperFrom}
 use Rattle.ground_model.specs.Packed.{State}
@@ -22,6 +24,7 @@ use Rattle.row_check.specs.declared.row.Scratch.{Scratch}
 use Rattle.row_check.specs.declared.act.Act.{Act}
 use Rattle.row_check.specs.declared.act.Act.TheVariants.{GiveUp, Goal, Do}
 use Rattle.row_check.specs.declared.claim.Claim.{Claim}
+use Rattle.row_check.specs.declared.conditions.Conditions.{Conditions}
 use Rattle.row_check.specs.declared.fault.Fault.{Fault}
 use Rattle.row_check.specs.declared.fault.Fault.TheVariants as fault
 
@@ -40,16 +43,26 @@ module _ (p : Process State ℕ) where
     pub at_goal : p.goal s ≡ true → value ≡ 0
     pub follows : IsUpperFrom p high s (action_of act) value
 
-  abbrev pub AllAllow : (State → ℕ) → State → ℕ → Type 0
-  AllAllow low s value = (k : ℕ) → Contains (p.choices s) k → value * p.den ≤ action_value p low k s
-
   module _ (low high : State → ℕ) (s : State) (claim : Claim) where
+    pub record AreConditions (c : Conditions) : Type 0 where
+      pub act : IsTrue c.act ↔ IsRight s claim.act
+      pub lower : IsTrue c.lower ↔ IsLowerFrom p low s claim.lower
+      pub upper : IsRight s claim.act → (IsTrue c.upper ↔ UpperFollows high s claim.act claim.upper)
+
     abbrev pub IsFirstFault : Option Fault → Type 0
     IsFirstFault None = IsRight s claim.act × IsLowerFrom p low s claim.lower × UpperFollows high s claim.act claim.upper
     IsFirstFault (Some fault.Act) = IsRight s claim.act → ⊥
     IsFirstFault (Some fault.Lower) = IsRight s claim.act × (IsLowerFrom p low s claim.lower → ⊥)
     IsFirstFault (Some fault.Upper) =
         IsRight s claim.act × IsLowerFrom p low s claim.lower × (UpperFollows high s claim.act claim.upper → ⊥)
+
+abbrev pub first_fault : Conditions → Option Fault
+first_fault c =
+    cond c.act (cond c.lower (cond c.upper None (Some fault.Upper)) (Some fault.Lower)) (Some fault.Act)
+
+-- of a ground problem
+abbrev pub HaveConditions : Ground → (State → ℕ) → (State → ℕ) → State → Claim → Conditions → Type 0
+HaveConditions g low high s claim c = AreConditions (ground_process g) low high s claim c
 
 -- of a ground problem
 abbrev pub IsFault : Ground → (State → ℕ) → (State → ℕ) → State → Claim → Option Fault → Type 0

@@ -1,5 +1,8 @@
 //! What a row does.
 
+ghost use Rattle.std.specs.Prelude.{◌≡◌, ◌↔◌, IsTrue};
+ghost use Rattle.row_check.specs.declared.act.Act.TheVariants.{Do};
+
 /// What a row says is done in its state.
 #[derive(Clone, Copy, Drop, Debug, PartialEq, Eq)]
 pub enum Act {
@@ -9,4 +12,16 @@ pub enum Act {
     Goal,
     /// To take the action with this code.
     Do(u16),
+}
+
+impl Act {
+    /// Whether this is to take the action with this code.
+    pub(crate) fn takes(self, code: u16) -> bool
+        ensures { IsTrue result ↔ (self ≡ Do code) }
+    {
+        match self {
+            Act::Do(own) => own == code,
+            Act::GiveUp | Act::Goal => false,
+        }
+    }
 }

@@ -3,14 +3,19 @@
 ghost use Rattle.std.specs.Prelude.{◌≡◌, ℕ};
 ghost use Rattle.ground_model.specs.Packed.{State};
 
+use crate::bounds::Bounds;
 use ground_model::State as PackedState;
 
-/// A value for each state, in micro-units.
+/// A lower and an upper value for each state, in micro-units.
 pub trait Reading {
-    /// The value of a state.
-    ghost value: { Self → State → ℕ };
+    /// The lower value of a state.
+    ghost low: { Self → State → ℕ };
 
-    /// The value of a state.
-    fn read(&self, state: &PackedState) -> u64
-        ensures { result ≡ value self.now state.now };
+    /// The upper value of a state.
+    ghost high: { Self → State → ℕ };
+
+    /// The values of a state.
+    fn read(&self, state: &PackedState) -> Bounds
+        ensures lower { result.lower ≡ low self.now state.now }
+        ensures upper { result.upper ≡ high self.now state.now };
 }

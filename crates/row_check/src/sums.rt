@@ -1,33 +1,61 @@
-//! Expected costs of actions.
+//! Sums of the lower and of the upper values, each with its weight.
 
 ghost use Rattle.std.specs.Prelude.{◌≡◌, length};
 ghost use Rattle.ground_model.specs.Invariant.{IsAction};
 ghost use Rattle.ground_model.specs.Ground.{Ground};
 ghost use Rattle.ground_model.specs.Steps.{own_action_value};
+ghost use Rattle.row_check.specs.Faults.{start_sum};
 
 use crate::reading::Reading;
-use ground_model::{GroundAction, State};
+use ground_model::{GroundAction, GroundProblem, State};
 use ground_step::apply;
 
-/// The expected cost of taking an action in a state, with readings of the next states, times the action's
+/// A sum of lower and one of upper values, in micro-units times the denominator of the weights.
+#[derive(Clone, Copy, Drop)]
+pub(crate) struct Sums {
+    pub lower: u128,
+    pub upper: u128,
+}
+
+/// The expected costs of taking an action in a state, with readings of the next states, times the action's
 /// denominator. The next states are written into `next`.
-pub(crate) fn action_value<R: Reading>(
+pub(crate) fn action_sums<R: Reading>(
     action: &GroundAction,
     reading: &R,
     state: &State,
     next: &mut State,
     atoms: usize,
-) -> u128
+) -> Sums
     requires action { IsAction atoms action.now }
     requires fits { length next.old ≡ length state.now }
-    ensures sum { result ≡ own_action_value (R.value reading.now) action.now state.now }
+    ensures lower { result.lower ≡ own_action_value (R.low reading.now) action.now state.now }
+    ensures upper { result.upper ≡ own_action_value (R.high reading.now) action.now state.now }
     ensures fits { length next.new ≡ length state.now }
 {
-    let mut sum: u128 = 0;
+    let mut lower: u128 = 0;
+    let mut upper: u128 = 0;
     for choice in action.choices.as_slice() {
-        let cost = apply(choice, state, next);
-        let value = reading.read(next);
-        sum += u128::from(choice.weight) * (u128::from(cost) + u128::from(value));
+        let weight = u128::from(choice.weight);
+        let cost = u128::from(apply(choice, state, next));
+        let bounds = reading.read(next);
+        lower += weight * (cost + u128::from(bounds.lower));
+        upper += weight * (cost + u128::from(bounds.upper));
     }
-    sum
+    Sums { lower, upper }
+}
+
+/// The sums of the weights of the initial states times their values.
+pub(crate) fn start_sums<R: Reading>(problem: &GroundProblem, reading: &R) -> Sums
+    ensures lower { result.lower ≡ start_sum problem.now (R.low reading.now) }
+    ensures upper { result.upper ≡ start_sum problem.now (R.high reading.now) }
+{
+    let mut lower: u128 = 0;
+    let mut upper: u128 = 0;
+    for start in problem.starts() {
+        let weight = u128::from(start.weight);
+        let bounds = reading.read(&start.state);
+        lower += weight * u128::from(bounds.lower);
+        upper += weight * u128::from(bounds.upper);
+    }
+    Sums { lower, upper }
 }

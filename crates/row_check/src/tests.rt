@@ -9,13 +9,16 @@ use open_actions::{OpenActions, OpenCodes};
 use std::alloc::{AllocError, Global};
 use std::test::Fail;
 
-/// One value for all states.
-struct Same(u64);
+/// The same values for all states.
+#[derive(Drop)]
+struct Same(Bounds);
 
 impl Reading for Same {
-    ghost value = { λ same state. same.0 };
+    ghost low = { λ same state. same.0.lower };
 
-    fn read(&self, _state: &State) -> u64 {
+    ghost high = { λ same state. same.0.upper };
+
+    fn read(&self, _state: &State) -> Bounds {
         self.0
     }
 }
@@ -77,15 +80,11 @@ fn fault_of(alloc: Global, claim: Claim) -> Result<Option<Fault>, AllocError> {
     let next = state_of(alloc, &[0])?;
     let codes = OpenCodes::new(alloc, &problem)?;
     let mut scratch = Scratch { next, codes };
-    let fault = row_fault(
-        &index,
-        &Same(0),
-        &Same(4_000_000),
-        &tails,
-        claim,
-        &mut scratch,
-    );
-    Ok(fault)
+    let reading = Same(Bounds {
+        lower: 0,
+        upper: 4_000_000,
+    });
+    Ok(row_fault(&index, &reading, &tails, claim, &mut scratch))
 }
 
 #[test]
@@ -110,7 +109,8 @@ fn the_first_fault_of_a_row_is_found(rt: HostRuntime) -> Result<(), Fail> {
 fn an_interval_is_compared(rt: HostRuntime) -> Result<(), Fail> {
     let alloc = rt.alloc();
     let problem = coin(alloc)?;
-    assert!(rt; is_interval(&problem, &Same(3), &Same(4), 3, 4));
-    assert!(rt; !is_interval(&problem, &Same(3), &Same(4), 4, 4));
+    let reading = Same(Bounds { lower: 3, upper: 4 });
+    assert!(rt; is_interval(&problem, &reading, 3, 4));
+    assert!(rt; !is_interval(&problem, &reading, 4, 4));
     Ok(())
 }

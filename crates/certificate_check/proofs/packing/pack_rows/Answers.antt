@@ -8,12 +8,12 @@ use Rattle.certificate.specs.Rows.{Row, shown}
 use Rattle.ground_model.specs.Choices.{is_member}
 use Rattle.ground_model.proofs.Packed.{length-packed}
 use Rattle.ground_step.specs.Atoms.{state_of}
-use Rattle.certificate_check.specs.Claims.{is_known, state_of_row}
+use Rattle.certificate_check.specs.Claims.{numbers_of, is_known, state_of_row}
 use Rattle.certificate_check.proofs.Arena.{row_more}
 use Rattle.certificate_check.proofs.packing.pack_rows.Goals as goal
 
-pub put_numbers-requires : goal.put_numbers-requires
-put_numbers-requires c =
+pub put_atoms-is_known-requires : goal.put_atoms-is_known-requires
+put_atoms-is_known-requires c =
     let rows = c.args.rows.now in
     let k = c.loop-place.place in
     let r : Row = shown c.row.result in
@@ -30,16 +30,16 @@ loop-place-preserved c =
     let r : Row = shown c.row.result in
     let f : Row → _ = state_of_row c.args.numbers.now c.args.width in
     let more : take (k + 1) rows ≡ take k rows ++ r ∷ [] = row_more rows k r c.row.ensures in
-    let atoms = c.as_slice.ensures.value ∙ c.in_ok-is_known.ensures.numbers in
-    let state : c.words.result.now ≡ f r = c.words.ensures ∙ c.state_of_atoms.ensures
-    ∙ (λ j. state_of (atoms j) (c.loop-place.invariant.long j)) in
+    let state : c.words.result.now ≡ f r = c.words.ensures ∙ c.put_atoms-is_known.ensures.state
+    ∙ ap (state_of (numbers_of c.args.numbers.now r.atoms)) c.loop-place.invariant.long in
     record {
       words = c.in_ok-extend_from_slice.ensures.items
           ∙ (λ j. c.loop-place.invariant.words j ++ state j)
           ∙ flat_map_more f [] (take k rows) r ∙ ap (flat_map f) (sym more);
       known = c.in_ok-push.ensures.items
-          ∙ (λ j. c.loop-place.invariant.known j ++ c.in_ok-is_known.ensures.known j ∷ [])
+          ∙ (λ j. c.loop-place.invariant.known j ++ c.put_atoms-is_known.ensures.known j ∷ [])
           ∙ sym (ap (map (is_known c.args.numbers.now)) more ∙ map-append (is_known c.args.numbers.now) (take k rows) (r ∷ []));
-      long = ap length c.state_of_atoms.ensures ∙ length-packed (is_member c.as_slice.result.now) (length c.loop-place.state)
+      long = ap length c.put_atoms-is_known.ensures.state
+          ∙ length-packed (is_member (numbers_of c.args.numbers.now r.atoms)) (length c.loop-place.state)
           ∙ c.loop-place.invariant.long;
     }

@@ -26,8 +26,8 @@ row_fault-requires g c =
 pub returns-in_err-fault-clause-verdict : goal.returns-in_err-fault-clause-verdict
 returns-in_err-fault-clause-verdict g c = λ r at'.
     let x = c.args.rows.now in
-    let low = g.L.Reading.value c.args.low.now in
-    let high = g.H.Reading.value c.args.high.now in
+    let low = g.R.Reading.low c.args.reading.now in
+    let high = g.R.Reading.high c.args.reading.now in
     let mine : Row = shown c.row-claimed.result in
     let at = read_at x c.certificate.result.now c.rows.result.now c.args.place mine c.certificate.ensures c.rows.ensures.value c.row-claimed.ensures in
     subst (IsRowVerdict x.problem x.certificate low high r (c.args.place + 1)) (sym c.from_residual.ensures)
@@ -46,8 +46,8 @@ returns-in_err-fault-clause-room g c =
 pub returns-clause-verdict : goal.returns-clause-verdict
 returns-clause-verdict g c = λ r at'.
     let x = c.args.rows.now in
-    let low = g.L.Reading.value c.args.low.now in
-    let high = g.H.Reading.value c.args.high.now in
+    let low = g.R.Reading.low c.args.reading.now in
+    let high = g.R.Reading.high c.args.reading.now in
     let mine : Row = shown c.row-claimed.result in
     let at = read_at x c.certificate.result.now c.rows.result.now c.args.place mine c.certificate.ensures c.rows.ensures.value c.row-claimed.ensures in
     subst (λ v. IsRowVerdict x.problem x.certificate low high r (c.args.place + 1) (Some v)) (sym c.verdict_of.ensures)

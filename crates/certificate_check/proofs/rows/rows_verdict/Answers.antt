@@ -26,9 +26,9 @@ pub loop-place-preserved : goal.loop-place-preserved
 loop-place-preserved g c =
     let x = c.args.rows.now in
     record {
-      sound = sound_more x.problem x.certificate (g.L.Reading.value c.args.low.now) (g.H.Reading.value c.args.high.now) c.loop-place.place
+      sound = sound_more x.problem x.certificate (g.R.Reading.low c.args.reading.now) (g.R.Reading.high c.args.reading.now) c.loop-place.place
           c.loop-place.invariant.sound
-          (λ r at. sound_by x.problem x.certificate (g.L.Reading.value c.args.low.now) (g.H.Reading.value c.args.high.now) r
+          (λ r at. sound_by x.problem x.certificate (g.R.Reading.low c.args.reading.now) (g.R.Reading.high c.args.reading.now) r
           c.loop-place.place c.row_verdict.result (none_of c.row_verdict.result c.in_default.not-Some)
           (c.row_verdict.ensures.verdict r at));
       room = c.row_verdict.ensures.room;
@@ -39,5 +39,5 @@ returns g c =
     let x = c.args.rows.now in
     let rows : length c.rows.result.now ≡ length x.certificate.rows
     = ap length (c.rows.ensures.value ∙ ap (λ (y : Content). y.rows) c.certificate.ensures) in
-    sound_all x.problem x.certificate (g.L.Reading.value c.args.low.now) (g.H.Reading.value c.args.high.now) c.loop-place.place
+    sound_all x.problem x.certificate (g.R.Reading.low c.args.reading.now) (g.R.Reading.high c.args.reading.now) c.loop-place.place
     (omega (arith, rows, c.len-place-end.ensures, c.loop-place-test.false)) c.loop-place.invariant.sound

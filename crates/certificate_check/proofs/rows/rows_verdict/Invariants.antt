@@ -4,6 +4,6 @@ use Rattle.certificate_check.proofs.rows.rows_verdict.Given as goal
 
 abbrev pub invariant-loop-place : goal.invariant-loop-place
 invariant-loop-place g l = record {
-  sound : AreSoundBefore l.rows.problem l.rows.certificate (g.L.Reading.value l.low) (g.H.Reading.value l.high) l.place;
+  sound : AreSoundBefore l.rows.problem l.rows.certificate (g.R.Reading.low l.reading) (g.R.Reading.high l.reading) l.place;
   room : HasRoomFor l.rows.problem l.room;
 }
