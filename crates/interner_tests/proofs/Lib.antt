@@ -1,4 +1,4 @@
-pub mod Coins
 pub mod Passes
 pub mod Stepping
 pub mod Switches
+pub mod Turns

@@ -1,9 +1,9 @@
 -- Passes after a step.
-use Rattle.std.proofs.Common.{◌≡◌, ℕ, ◌<◌, Some, List, ◌∷◌, length, refl, sym, ap, ◌∙◌, subst, arith}
-use Rattle.std.specs.Prelude.{is_some, get_or}
+use Rattle.std.proofs.Common.{◌≡◌, ℕ, ◌<◌, Some, List, [], ◌∷◌, ◌++◌, length, refl, sym, ap, ◌∙◌, subst, arith}
+use Rattle.std.specs.Prelude.{is_some, get_or, All}
+use Rattle.std.proofs.lemmas.List.Elements.{All-push, All-weaker}
 use Rattle.ground_model.specs.Packed.{State}
 use Rattle.ground_model.specs.Ground.{Ground}
-use Rattle.ground_model.specs.Coin.{tails}
 use Rattle.word_layout.specs.declared.layout.Layout.{Layout}
 use Rattle.word_view.specs.declared.notes.Written.{Written}
 use Rattle.word_view.specs.declared.view.View.{View}
@@ -15,7 +15,7 @@ use Rattle.word_view.proofs.Noting.{noted_is_more}
 use Rattle.word_table.specs.Made.{IsMade}
 use Rattle.word_table.specs.Seen.{Board, Knowledge, IsOf, HoldsId, HasPublished, knowledge}
 use Rattle.bellman_backup.proofs.Stepping.{reached_later}
-use Rattle.interner_tests.specs.Steps.{IsBegun, CanWalk, IsPrepared, IsAtCoin}
+use Rattle.interner_tests.specs.Steps.{IsBegun, CanWalk, IsPrepared, IsAtSet, KeepsSets}
 
 pub made_is_begun : (g : Ground) (ids rights : ℕ) (states : List State) (b : Board) (k : Knowledge) → IsMade g ids rights states b k → IsBegun g rights b k
 made_is_begun g ids rights states b k made = record {
@@ -23,14 +23,6 @@ made_is_begun g ids rights states b k made = record {
   here = subst (IsOf b) (sym made.pass) (record { table = refl; view = record { live = refl; problem = sym made.problem; layout = refl } });
   free = ap (λ (l : Knowledge). l.view.spare) made.pass;
   rights_are = ap (λ (l : Knowledge). l.view.rights) made.pass;
-}
-
-pub coin_later : (b : Board) (k l : Knowledge) (id : ℕ) → IsAtCoin b k id → IsOf b l → HasMore k.view l.view → IsAtCoin b l id
-coin_later b k l id at here more = record {
-  here = here;
-  problem = at.problem;
-  known = more.known id at.known;
-  has = has_state_more k.view l.view more id tails at.has;
 }
 
 -- ---- what a step leaves
@@ -85,15 +77,30 @@ claimed_is_prepared b k l m n s count word can reached counted claimed wrote one
       reached = reached_later m.view n.view s third.1 (reached_later l.view m.view s second.1 (reached_later k.view l.view s first.1 reached));
     }
 
--- ---- the coin
+-- ---- sets of switches
 
-pub coin_view : (b : Board) (k l : Knowledge) (w : View) (id : ℕ) → IsAtCoin b k id → HasMore k.view w → w.live ≡ k.view.live → l ≡ knowledge k.table w
-    → IsAtCoin b l id
-coin_view b k l w id at more live is = subst (λ x. IsAtCoin b x id) (sym is) (coin_later b k (knowledge k.table w) id at (record {
-  table = at.here.table;
-  view = record {
-    live = live ∙ at.here.view.live;
-    problem = more.problem ∙ at.here.view.problem;
-    layout = more.layout ∙ at.here.view.layout;
-  };
-}) more)
+pub keeps_more : (b : Board) (k l : Knowledge) → IsOf b l → HasMore k.view l.view → KeepsSets b k l
+keeps_more b k l here more = λ id at. record {
+  here = here;
+  problem = at.problem;
+  known = more.known id at.known;
+  set = at.set;
+  has = has_state_more k.view l.view more id at.set at.has;
+  some = at.some;
+  off_goal = at.off_goal;
+}
+
+pub keeps_step : (b : Board) (k l : Knowledge) (w : View) → HasMore k.view w → w.live ≡ k.view.live → l ≡ knowledge k.table w → KeepsSets b k l
+keeps_step b k l w more live is = λ id at.
+    let after = stepped b k l w at.here more live is in
+    keeps_more b k l after.0 after.1 id at
+
+pub keeps_both : (b : Board) (k l m : Knowledge) → KeepsSets b k l → KeepsSets b l m → KeepsSets b k m
+keeps_both b k l m first second = λ id at. second id (first id at)
+
+pub keeps_all : (b : Board) (k l : Knowledge) (ids : List ℕ) → KeepsSets b k l → All (IsAtSet b k) ids → All (IsAtSet b l) ids
+keeps_all b k l ids keeps each = All-weaker (IsAtSet b k) (IsAtSet b l) keeps ids each
+
+pub keeps_and_adds : (b : Board) (k l : Knowledge) (ids : List ℕ) (id : ℕ) → KeepsSets b k l → All (IsAtSet b k) ids → IsAtSet b l id
+    → All (IsAtSet b l) (ids ++ id ∷ [])
+keeps_and_adds b k l ids id keeps each at = All-push (IsAtSet b l) ids id (keeps_all b k l ids keeps each) at

@@ -17,40 +17,40 @@ all_of P f a zero each = All-nil P
 all_of P f a (suc n) each = All-cons P (f a) (map f (range_with_len (a + 1) n)) (each a (omega arith))
     (all_of P f (a + 1) n (λ k below. each k (omega arith)))
 
-turn_literals : (k : ℕ) → k < 14 → AreLiterals 14 (k ∷ []) []
+turn_literals : (k : ℕ) → k < 15 → AreLiterals 15 (k ∷ []) []
 turn_literals k below = record {
   adds_rise = refl;
-  adds_below = one_of (λ q. q < 14) k below;
+  adds_below = one_of (λ q. q < 15) k below;
   deletes_rise = refl;
-  deletes_below = All-nil (λ q. q < 14);
+  deletes_below = All-nil (λ q. q < 15);
   disjoint = refl;
 }
 
-turn_choice : (k : ℕ) → k < 14 → IsChoice 14 (turned k)
+turn_choice : (k : ℕ) → k < 15 → IsChoice 15 (turned k)
 turn_choice k below = record {
   literals = turn_literals k below;
-  guarded = All-nil (IsGuarded 14);
+  guarded = All-nil (IsGuarded 15);
   cost_above = omega arith;
   cost_within = omega arith;
 }
 
-turn_weights : IsDistribution (λ (c : Choice). c.weight) turns 14
+turn_weights : IsDistribution (λ (c : Choice). c.weight) turns 15
 unfolding turns
 turn_weights = record {
-  positive = all_of (λ (c : Choice). 0 < c.weight) turned 0 14 (λ k below. omega arith);
+  positive = all_of (λ (c : Choice). 0 < c.weight) turned 0 15 (λ k below. omega arith);
   sum = refl;
   den_above = omega arith;
   den_within = omega arith;
 }
 
-turn_choices : All (IsChoice 14) turns
+turn_choices : All (IsChoice 15) turns
 unfolding turns
-turn_choices = all_of (IsChoice 14) turned 0 14 (λ k below. turn_choice k (omega arith))
+turn_choices = all_of (IsChoice 15) turned 0 15 (λ k below. turn_choice k (omega arith))
 
-turn_action : IsAction 14 turn
+turn_action : IsAction 15 turn
 unfolding turns
 turn_action = record {
-  condition = All-nil (λ q. q < 14);
+  condition = All-nil (λ q. q < 15);
   weights = turn_weights;
   choices = turn_choices;
   count = omega arith;
@@ -72,11 +72,11 @@ switches_are_ground_problem = record {
   penalty_above = omega arith;
   penalty_within = omega arith;
   starts_weights = start_weights;
-  starts_inside = one_of (IsInside 14) (record { weight = 1; state = 0 ∷ [] }) refl;
+  starts_inside = one_of (IsInside 15) (record { weight = 1; state = 0 ∷ [] }) refl;
   starts_differ = λ i j d before within. absurd (omega arith);
   starts_count = omega arith;
-  goal = All-nil (λ q. q < 14);
-  actions = one_of (IsAction 14) turn turn_action;
+  goal = one_of (λ q. q < 15) 14 (omega arith);
+  actions = one_of (IsAction 15) turn turn_action;
   names_differ = λ i j d before within. absurd (omega arith);
   actions_count = omega arith;
 }
@@ -88,5 +88,5 @@ pub grown : {X : Type 0} (f : ℕ → X) (old new : List X) (x : X) (i : ℕ) �
 grown f old new x i so_far pushed is =
     pushed ∙ (ap (λ l. l ++ x ∷ []) so_far ∙ (ap (λ y. map f (range_with_len 0 i) ++ y ∷ []) is ∙ sym (map-range_with_len_more f 0 i i (omega arith))))
 
-pub whole : {X : Type 0} (f : ℕ → X) (all items : List X) (i : ℕ) → all ≡ items → items ≡ map f (range_with_len 0 i) → i ≡ 14 → all ≡ map f (range_with_len 0 14)
+pub whole : {X : Type 0} (f : ℕ → X) (all items : List X) (i : ℕ) → all ≡ items → items ≡ map f (range_with_len 0 i) → i ≡ 15 → all ≡ map f (range_with_len 0 15)
 whole f all items i is so_far last = is ∙ (so_far ∙ ap (λ n. map f (range_with_len 0 n)) last)

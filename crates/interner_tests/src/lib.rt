@@ -11,10 +11,18 @@ mod problems;
 #[cfg(test)]
 mod racing;
 #[cfg(test)]
+mod role;
+#[cfg(test)]
 mod scenes;
+#[cfg(test)]
+mod sets;
 #[cfg(test)]
 mod tables;
 #[cfg(test)]
 mod tests;
 #[cfg(test)]
+mod tire;
+#[cfg(test)]
 mod walking;
+#[cfg(test)]
+mod watching;

@@ -1,4 +1,4 @@
-//! What one pass or two do on a table of the switches, and whether it comes out as it is to.
+//! What one pass or two do on a table, and whether it comes out as it is to.
 
 ghost use Rattle.std.specs.Prelude.{◌≡◌, None, IsTrue};
 ghost use Rattle.word_view.specs.Views.{IsReached};
@@ -43,7 +43,7 @@ pub(crate) fn lose(
     id == 1 && next == 2 && held == 1
 }
 
-/// The loser gets the id of the state, and keeps its spare for the next new state.
+/// The loser gets the id of the state, and keeps its spare for the next new state, so that three ids are given out in all.
 pub(crate) fn spend(
     words: &Words<'_>,
     pass: &mut Pass,
@@ -63,7 +63,9 @@ pub(crate) fn spend(
     if !reach(words, pass, start, 0, 1, next) {
         return false;
     }
-    intern_id(words, pass, next) == Some(2) && !pass.holds_spare()
+    let id = intern_id(words, pass, next);
+    let count = load_count(words, pass);
+    id == Some(2) && !pass.holds_spare() && count == 3
 }
 
 /// One id is left behind the start's: it goes to the first state, and the second one gets none.

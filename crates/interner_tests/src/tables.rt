@@ -249,7 +249,9 @@ pub(crate) fn end(words: &Words<'_>, pass: &mut Pass, other: Pass)
 pub(crate) fn intern_id(words: &Words<'_>, pass: &mut Pass, state: &State) -> Option<u32>
     requires can { CanWalk words.now pass.old }
     requires reached { IsReached pass.old.view state.now }
-    ensures { CanWalk words.now pass.new }
+    ensures can { CanWalk words.now pass.new }
+    ensures goes_on { GoesOn words.now pass.old pass.new }
+    ensures some { IfSome result (λ id. IsIdOf pass.new.view state.now id) }
 {
     match intern(words, pass, state) {
         Interned::Id(id) => Some(id),

@@ -1,14 +1,14 @@
 //! Races over one table, and each call of the table once.
 
-use super::narrowing::{
-    back_up, begin_coin, bounds, copy, hear, is_interval, make_watchers, narrows, none_widened,
-    watch_all,
-};
+use super::narrowing::{back_up, bounds, copy, have_interval, hear, narrows};
 use super::parts::state_of;
-use super::problems::{coin, switches};
+use super::problems::switches;
 use super::racing::run_race;
 use super::scenes::{agrees, closes, fill, lose, publish_and_read, spend, tells};
+use super::sets::begin_sets;
 use super::tables::{begin, part};
+use super::tire::tire;
+use super::watching::{make_watchers, none_widened, watch_all};
 use std::test::Fail;
 
 #[test]
@@ -25,11 +25,13 @@ fn four_threads_number_states_alike(rt: HostRuntime) -> Result<(), Fail> {
     Ok(())
 }
 
+/// The state is the second place of the tire world, and the next one is that place with a flat tire.
 #[test]
 fn who_loses_a_race_keeps_its_spare(rt: HostRuntime) -> Result<(), Fail> {
     let alloc = rt.alloc();
-    let problem = switches(alloc)?;
-    let start = state_of(alloc, &[0])?;
+    let problem = tire(alloc)?;
+    // the tire is not flat 1, a spare at the second place 4, the car at the first place 16
+    let start = state_of(alloc, &[21])?;
     let mut one = state_of(alloc, &[0])?;
     let mut other = state_of(alloc, &[0])?;
     let mut next = state_of(alloc, &[0])?;
@@ -96,34 +98,35 @@ fn a_table_tells_what_it_was_made_with(rt: HostRuntime) -> Result<(), Fail> {
 
 #[test]
 fn numbers_are_loaded_and_narrowed(rt: HostRuntime) -> Result<(), Fail> {
-    let problem = coin(rt.alloc())?;
-    let (words, mut pass, id) = begin_coin(rt.alloc(), &problem)?;
-    assert!(rt; narrows(&words, &mut pass, id));
+    let problem = switches(rt.alloc())?;
+    let (words, mut pass, ids) = begin_sets(rt.alloc(), &problem)?;
+    assert!(rt; narrows(&words, &mut pass, ids[0]));
     Ok(())
 }
 
-/// One pass backs up tails, and another one meets it.
+/// One pass backs up a set, and another one meets it. A turn costs one unit, and then 100 at most with fourteen chances in
+/// fifteen.
 #[test]
 fn who_meets_a_pass_reads_no_wider(rt: HostRuntime) -> Result<(), Fail> {
-    let problem = coin(rt.alloc())?;
-    let (words, mut first, id) = begin_coin(rt.alloc(), &problem)?;
+    let problem = switches(rt.alloc())?;
+    let (words, mut first, ids) = begin_sets(rt.alloc(), &problem)?;
     let mut second = copy(&words, &mut first);
-    back_up(rt.alloc(), &words, &mut first, id)?;
-    hear(&words, &mut second, id, &mut first);
-    let found = bounds(&words, &mut second, id);
-    assert!(rt; found.lower >= 1_000_000 && found.upper <= 6_000_000);
+    back_up(rt.alloc(), &words, &mut first, ids[0])?;
+    hear(&words, &mut second, ids[0], &mut first);
+    let found = bounds(&words, &mut second, ids[0]);
+    assert!(rt; found.lower >= 1_000_000 && found.upper <= 94_333_334);
     Ok(())
 }
 
-/// Two threads narrow the numbers of tails while a third reads them.
+/// Two threads narrow the numbers of eight sets, in opposite orders, while a third reads them.
 #[test]
 fn numbers_never_widen(rt: HostRuntime) -> Result<(), Fail> {
-    let problem = coin(rt.alloc())?;
-    let (words, mut pass, id) = begin_coin(rt.alloc(), &problem)?;
-    let mut watchers = make_watchers(rt.alloc(), &words, &mut pass, id, 3)?;
-    watch_all(&rt, &words, watchers.as_mut_slice(), id);
+    let problem = switches(rt.alloc())?;
+    let (words, mut pass, ids) = begin_sets(rt.alloc(), &problem)?;
+    let ids = ids.as_slice();
+    let mut watchers = make_watchers(rt.alloc(), &words, &mut pass, ids)?;
+    watch_all(&rt, &words, watchers.as_mut_slice(), ids);
     assert!(rt; none_widened(watchers.as_slice()));
-    let found = bounds(&words, &mut pass, id);
-    assert!(rt; is_interval(found, 1_000_000, 6_000_000));
+    assert!(rt; have_interval(&words, &mut pass, ids, 1_000_000, 95_000_000));
     Ok(())
 }

@@ -8,10 +8,10 @@ use ground_model::State;
 use std::thread::{Threads, for_each_mut};
 use word_table::{Pass, Words};
 
-/// How many switches there are.
+/// How many switches there are without the last one.
 pub(crate) const SWITCHES: u32 = 14;
 
-/// How many sets of switches there are.
+/// How many sets of these switches there are.
 pub(crate) const SETS: u32 = 16_384;
 
 const _: () = prove!(SWITCHES == 14);

@@ -12,5 +12,5 @@ loop-switch-preserved c =
 pub returns : goal.returns
 unfolding atoms
 returns c =
-    let last : c.loop-switch.switch ≡ 14 = omega arith in
+    let last : c.loop-switch.switch ≡ 15 = omega arith in
     whole name_of c.from_vec.result c.loop-switch.atoms.items c.loop-switch.switch c.from_vec.ensures c.loop-switch.invariant last
