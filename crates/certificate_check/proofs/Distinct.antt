@@ -28,6 +28,7 @@ use Rattle.ground_model.proofs.Rising.{texts_differ}
 use Rattle.ground_step.specs.Atoms.{state_of}
 use Rattle.ground_step.specs.Names.{place_of}
 use Rattle.certificate_check.specs.Claims.{listed, number_at, numbers_of, are_known, atom_numbers, knows, row_state, row_of, rows_of}
+use Rattle.certificate_check.specs.Packing.{NumbersDiffer, AtomsRise}
 use Rattle.certificate_check.proofs.Rising.{less_is, rising, same_members}
 
 some_of : (o : Option ℕ) → is_some o ≡ true → (q : ℕ) × (o ≡ Some q)
@@ -58,7 +59,7 @@ module _ (numbers : List (Option ℕ)) where
       Contains-flat_map (λ k. listed (number_at numbers k)) atoms i q inside
       (subst (λ o. Contains (listed o) q) (sym is) (Contains-first q []))
 
-  number_from : (atoms : List ℕ) (q : ℕ) → Contains (numbers_of numbers atoms) q
+  pub number_from : (atoms : List ℕ) (q : ℕ) → Contains (numbers_of numbers atoms) q
       → (i : ℕ) × Contains atoms i × (number_at numbers i ≡ Some q)
   number_from atoms q inside =
       let found : (i : ℕ) × Contains atoms i × Contains (listed (number_at numbers i)) q
@@ -90,8 +91,8 @@ module _ (g : Ground) (c : Content) (atoms_rise : IsTrue (rises compare_texts c.
         absurd (none-some q (sym none ∙ is))
   ]
 
-  one_entry : (i j q : ℕ) → number_at (atom_numbers g c) i ≡ Some q → number_at (atom_numbers g c) j ≡ Some q → i ≡ j
-  one_entry i j q is is' =
+  pub numbers_differ : NumbersDiffer (atom_numbers g c)
+  numbers_differ i j q is is' =
       let a = named i q is in
       let b = named j q is' in
       let same : get_or c.atoms i [] ≡ get_or c.atoms j [] = sym a.2 ∙ b.2 in
@@ -118,7 +119,7 @@ module _ (g : Ground) (c : Content) (atoms_rise : IsTrue (rises compare_texts c.
       (bit_on (numbers_of (atom_numbers g c) a) n q within (number_in (atom_numbers g c) a i q inside at.1)) in
       let there : (j : ℕ) × Contains b j × (number_at (atom_numbers g c) j ≡ Some q)
       = number_from (atom_numbers g c) b q (bit_from (numbers_of (atom_numbers g c) b) n q on) in
-      subst (Contains b) (sym (one_entry i there.0 q at.1 there.2)) there.1
+      subst (Contains b) (sym (numbers_differ i there.0 q at.1 there.2)) there.1
 
   differ : (r s : Row) → rises nat_cmp r.atoms ≡ true → rises nat_cmp s.atoms ≡ true → compare_rows r s ≡ Less
       → knows g c r ≡ true → knows g c s ≡ true → row_state g c r ≢ row_state g c s
@@ -137,13 +138,10 @@ module _ (g : Ground) (c : Content) (atoms_rise : IsTrue (rises compare_texts c.
   pub rows_unknown : (r : Row) (rows : List Row) → knows g c r ≡ false → rows_of g c (r ∷ rows) ≡ rows_of g c rows
   rows_unknown r rows unknown = ap (λ b. map (row_of g c) (cond b (r ∷ filter (knows g c) rows) (filter (knows g c) rows))) unknown
 
-  abbrev AllRise : List Row → Type 0
-  AllRise rows = AllByRecursion (λ (r : Row). IsTrue (rises nat_cmp r.atoms)) rows
-
   abbrev Later : Row → List Row → Type 0
   Later r rows = AllByRecursion (λ (s : Row). compare_rows r s ≡ Less) rows
 
-  apart : (r : Row) → rises nat_cmp r.atoms ≡ true → knows g c r ≡ true → (rows : List Row) → AllRise rows → Later r rows
+  apart : (r : Row) → rises nat_cmp r.atoms ≡ true → knows g c r ≡ true → (rows : List Row) → AtomsRise rows → Later r rows
       → All (λ (o : readings.Row State ℕ). row_state g c r ≢ o.state) (rows_of g c rows)
   apart r rise known [] rises' later = All-nil (λ (o : readings.Row State ℕ). row_state g c r ≢ o.state)
   apart r rise known (s ∷ rows) rises' later = elim (cases_Bool (knows g c s)) [
@@ -177,7 +175,7 @@ module _ (g : Ground) (c : Content) (atoms_rise : IsTrue (rises compare_texts c.
   sorted [] e = tt
   sorted (r ∷ rows) e = sorted_behind r rows e
 
-  distinct_from : (rows : List Row) → AllRise rows → Sorted rows → HasDistinctStates (rows_of g c rows)
+  distinct_from : (rows : List Row) → AtomsRise rows → Sorted rows → HasDistinctStates (rows_of g c rows)
   distinct_from [] rises' order = λ i j d before within. absurd (omega arith)
   distinct_from (r ∷ rows) rises' order = elim (cases_Bool (knows g c r)) [
     | inl known ↦

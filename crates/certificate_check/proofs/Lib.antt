@@ -3,6 +3,7 @@ pub mod Arena
 pub mod Distinct
 pub mod Ending
 pub mod Places
+pub mod Popping
 pub mod Rising
 pub mod RowVerdict
 pub mod Sound

@@ -1,7 +1,7 @@
 -- States that are written atom by atom.
-use Rattle.std.proofs.Common.{◌≡◌, ℕ, ◌+◌, ◌*◌, ◌<◌, Bool, true, false, ◌&&◌, ◌||◌, List, [], ◌∷◌, ◌++◌, Option, Some, None, length, take, refl, sym, ap, ◌∙◌}
+use Rattle.std.proofs.Common.{◌≡◌, ℕ, zero, suc, ◌+◌, ◌*◌, ◌<◌, Bool, true, false, ◌&&◌, ◌||◌, List, [], ◌∷◌, ◌++◌, Option, Some, None, length, take, refl, sym, ap, ◌∙◌}
 use Rattle.std.specs.Prelude.{nat_eq, get_or, is_some}
-use Rattle.std.proofs.lemmas.Bool.{lt-ltb, and_right}
+use Rattle.std.proofs.lemmas.Bool.{lt-ltb, and_parts, and_right}
 use Rattle.std.proofs.lemmas.List.{append-nil, take_more, flat_map_more}
 use Rattle.std.proofs.lemmas.List.Folds.{list_any-append, list_all_more}
 use Rattle.ground_model.specs.Packed.{has_bit, packed}
@@ -26,6 +26,17 @@ atom_more atoms a n =
     (has_bit-packed (is_member atoms) n q ∙ ap (λ b. b && is_member atoms q) (lt-ltb q (64 * n) within))
     ∙ or_turn (nat_eq q a) (is_member atoms q) ∙ sym (list_any-append (nat_eq q) atoms (a ∷ [])))
 
+-- ---- the first atoms of a row whose atoms are known
+
+pub known_first : (numbers : List (Option ℕ)) (atoms : List ℕ) (k : ℕ) → are_known numbers atoms ≡ true → are_known numbers (take k atoms) ≡ true
+known_first numbers [] zero known = refl
+known_first numbers [] (suc k) known = refl
+known_first numbers (i ∷ atoms) zero known = refl
+known_first numbers (i ∷ atoms) (suc k) known =
+    let parts = and_parts (is_some (number_at numbers i)) (are_known numbers atoms) known in
+    let rest : are_known numbers (take k atoms) ≡ true = known_first numbers atoms k parts.1 in
+    λ j. parts.0 j && rest j
+
 -- ---- one atom of a row more
 
 and_true : (b : Bool) → (b && true) ≡ b
@@ -33,7 +44,7 @@ and_true true = refl
 and_true false = refl
 
 module _ (numbers : List (Option ℕ)) (atoms : List ℕ) (i : ℕ) (within : i < length atoms) where
-  numbers_more : numbers_of numbers (take (i + 1) atoms)
+  pub numbers_more : numbers_of numbers (take (i + 1) atoms)
       ≡ numbers_of numbers (take i atoms) ++ listed (number_at numbers (get_or atoms i 0))
   numbers_more =
       ap (numbers_of numbers) (take_more atoms i 0 within)

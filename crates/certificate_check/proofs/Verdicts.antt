@@ -67,7 +67,7 @@ module _ (g : Ground) (c : Content) (low high : State → ℕ) where
   pub sound_by : (r : Row) (k : ℕ) (o : Option Verdict) → o ≡ None → IsRowVerdict g c low high r (k + 1) o → IsSound g c low high r
   sound_by r k o none told = subst (IsRowVerdict g c low high r (k + 1)) none told
 
-pub none_of : (o : Option Verdict) → ((v : Verdict) → o ≡ Some v → ⊥) → o ≡ None
+pub none_of : {X : Type 0} (o : Option X) → ((v : X) → o ≡ Some v → ⊥) → o ≡ None
 none_of None never = refl
 none_of (Some v) never = absurd (never v refl)
 

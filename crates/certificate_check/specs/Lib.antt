@@ -2,5 +2,6 @@ pub mod Claims
 pub mod Verdicts
 pub mod Codes
 pub mod GroundRows
+pub mod Packing
 pub mod Pass
 pub mod Laws

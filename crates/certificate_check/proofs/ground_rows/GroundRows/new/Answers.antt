@@ -1,9 +1,19 @@
 -- The parts are made of the certificate's.
-use Rattle.std.proofs.Common.{◌≡◌, map, ap, ◌∙◌}
+use Rattle.std.proofs.Common.{◌≡◌, map, sym, ap, subst, ◌∙◌}
 use Rattle.std.specs.List.{flat_map}
 use Rattle.ground_step.specs.Names.{place_of, action_names}
 use Rattle.certificate_check.specs.Claims.{atom_numbers, is_known, state_of_row}
+use Rattle.certificate_check.specs.Packing.{NumbersDiffer}
+use Rattle.certificate_check.proofs.Distinct.{numbers_differ}
 use Rattle.certificate_check.proofs.ground_rows.GroundRows.new.Goals as goal
+
+pub pack_rows-requires-clause-differ : goal.pack_rows-requires-clause-differ
+pack_rows-requires-clause-differ c =
+    let g = c.args.problem.now in
+    let q = c.args.certificate.now in
+    let numbers : c.as_slice.result.now ≡ atom_numbers g q
+    = c.as_slice.ensures.value ∙ c.in_ok-numbers.ensures ∙ ap (map (place_of g.atoms)) c.atoms.ensures.value in
+    subst NumbersDiffer (sym numbers) (numbers_differ g q c.atoms.ensures.valid.atoms_rise)
 
 pub invariant_of-result : goal.invariant_of-result
 invariant_of-result c =
