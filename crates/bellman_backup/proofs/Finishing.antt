@@ -3,7 +3,7 @@ use Rattle.std.proofs.Common.{◌≡◌, ℕ, ◌*◌, ◌/◌, ◌<◌, ◌≤�
 use Rattle.std.specs.Prelude.{IsTrue, Option, All, flat_map}
 use Rattle.std.specs.List.{slice_get}
 use Rattle.std.specs.Int.{div_ceil}
-use Rattle.std.proofs.lemmas.Bool.{both_ways, eq-eqb}
+use Rattle.std.proofs.lemmas.Bool.{both_ways, eq-eqb, eqb-true}
 use Rattle.std.proofs.lemmas.List.Elements.{All-nil, All-weaker}
 use Rattle.fixed_round.specs.Words.{word_of, value_of}
 use Rattle.decision_process.proofs.Choice.{min_with_is_least}
@@ -15,9 +15,10 @@ use Rattle.ground_model.specs.Steps.{ground_process}
 use Rattle.bound_core.specs.Numbers.{quit_word, IsSupported}
 use Rattle.word_view.specs.declared.view.View.{View}
 use Rattle.word_view.specs.Views.{number, knows, has_state, seen_lower, seen_upper, noted_lower, noted_upper, CanRaise, CanSink}
-use Rattle.word_view.specs.Steps.{with_count, with_lower, with_upper}
+use Rattle.word_view.specs.Steps.{with_count, with_lower}
 use Rattle.word_view.proofs.Lists.{is_first}
-use Rattle.word_view.proofs.Seen.{has_state_more, raised_is_seen, sunk_is_seen, greatest_over, least_under}
+use Rattle.word_view.specs.Laws.{HasMore}
+use Rattle.word_view.proofs.Seen.{has_state_more, raised_is_seen, sunk_is_seen, greatest_within, greatest_over, least_within, least_under}
 use Rattle.word_rule.specs.Told.{HasOneEach}
 use Rattle.word_table.specs.Seen.{Board, Knowledge, knowledge, IsOf}
 use Rattle.brtdp_trial.specs.declared.step.Step.{Step}
@@ -26,6 +27,7 @@ use Rattle.brtdp_trial.specs.Meaning.{Last, AreChoices, LeadsToKnown}
 use Rattle.brtdp_trial.specs.Listed.{no_action, last_in}
 use Rattle.bellman_backup.specs.declared.sums.Sums.{Sums}
 use Rattle.bellman_backup.specs.declared.best.Best.{Best}
+use Rattle.bellman_backup.specs.Races.{has_all}
 use Rattle.bellman_backup.specs.Readings.{Reading, loads_in}
 use Rattle.bellman_backup.specs.Candidates.{Found, act_word, least_low, least_word, IsAnswer}
 use Rattle.bellman_backup.specs.Backups.{Keeps, IsStateOf, IsFound, IsBackedUp, HasBackedUp, Narrows}
@@ -33,7 +35,7 @@ use Rattle.bellman_backup.specs.Totals.{HasReadAction}
 use Rattle.bellman_backup.specs.Choosing.{IsReadAction, HasChosen}
 use Rattle.bellman_backup.specs.Weighing.{HasWeighed, RestsAt, WeighTells, IsNarrowed}
 use Rattle.bellman_backup.proofs.Keeping.{keeps_again, keeps_count, keeps_raised, keeps_sunk, grows}
-use Rattle.bellman_backup.proofs.NextRead.{grows_all}
+use Rattle.bellman_backup.proofs.NextRead.{first_within_quit, seen_within_first, grows_all}
 use Rattle.bellman_backup.proofs.Choosers.{found_stays, chosen_more, are_found}
 use Rattle.bellman_backup.proofs.Narrowing.{can_raise, upper_follows, lower_is_backed, upper_is_backed, goal_is_backed}
 use Rattle.bellman_backup.proofs.Answering.{no_choices, are_choices, are_known}
@@ -68,6 +70,16 @@ word_within g v w s codes chosen best small has =
 
 -- ---- once all were read
 
+-- what was noted of an id was seen of its state
+pub noted_lower_is_seen : (v : View) (id : ℕ) (s : State) → IsTrue (has_state v id s) → noted_lower v id ≤ seen_lower v s
+noted_lower_is_seen v id s has = greatest_within (λ i. nat_eq i id) v.lower (seen_lower v s)
+    (λ n there same. raised_is_seen v n s there (subst (λ i. IsTrue (has_state v i s)) (sym (eqb-true n.id id same)) has))
+
+pub noted_upper_is_seen : (v : View) (id : ℕ) (s : State) → IsTrue (has_state v id s) → seen_upper v s ≤ noted_upper v id
+noted_upper_is_seen v id s has = least_within (λ i. nat_eq i id) (quit_word v.problem.penalty) v.upper (seen_upper v s)
+    (let first = seen_within_first v s in let quit = first_within_quit v.problem s in omega arith)
+    (λ n there same. sunk_is_seen v n s there (subst (λ i. IsTrue (has_state v i s)) (sym (eqb-true n.id id same)) has))
+
 pub record IsChosen (b : Board) (k l : Knowledge) (id : ℕ) (s : State) (found : List Found) : Type 0 where
   pub keeps : Keeps b k l
   pub known : knows l.view id
@@ -76,34 +88,16 @@ pub record IsChosen (b : Board) (k l : Knowledge) (id : ℕ) (s : State) (found 
   pub each : All (IsReadAction b.problem k.view l.view s) found
 
 module _ (b : Board) (k : Knowledge) (id : ℕ) (s : State) (found : List Found) where
-  chosen_later : (l m : Knowledge) → IsChosen b k l id s found → Keeps b l m → HasOneEach m.view → IsChosen b k m id s found
-  chosen_later l m is keeps one = record {
-    keeps = keeps_again b k l m is.keeps keeps;
-    known = keeps.noted.known id is.known;
-    has = has_state_more l.view m.view keeps.noted id s is.has;
-    one = one;
-    each = All-weaker (IsReadAction b.problem k.view l.view s) (IsReadAction b.problem k.view m.view s)
-        (λ f. found_stays b.problem k.view k.view l.view m.view s f (grows_all k.view) (grows b l m keeps)) found is.each;
-  }
-
-  pub chosen_raised : (l m : Knowledge) (n : ℕ) → IsChosen b k l id s found → m ≡ knowledge l.table (with_lower l.view id n) → IsChosen b k m id s found
-  chosen_raised l m n is seen = chosen_later l m is (keeps_raised b l m id n is.keeps.here seen)
-      (subst (λ (x : Knowledge). HasOneEach x.view) (sym seen) is.one)
-
-  pub chosen_sunk : (l m : Knowledge) (n : ℕ) → IsChosen b k l id s found → m ≡ knowledge l.table (with_upper l.view id n) → IsChosen b k m id s found
-  chosen_sunk l m n is seen = chosen_later l m is (keeps_sunk b l m id n is.keeps.here seen)
-      (subst (λ (x : Knowledge). HasOneEach x.view) (sym seen) is.one)
-
   found_at : (l : Knowledge) → IsOf b k → IsChosen b k l id s found → All (IsFound b.problem k.view l.view s) found
   found_at l of is = are_found b.problem k.view l.view s (problem_of b k of) (grows b k l is.keeps).later is.one found is.each
 
   module _ (of : IsOf b k) (problem : IsGroundProblem b.problem) (off : (ground_process b.problem).goal s ≡ false)
-      (codes : map (λ (f : Found). f.code) found ≡ (ground_process b.problem).choices s) where
-    pub raise_is_allowed : (l : Knowledge) → IsChosen b k l id s found → CanRaise l.view id (least_low b.problem.penalty s found)
-    raise_is_allowed l is = can_raise b.problem problem k.view l.view s off found codes (found_at l of is) id (problem_of b l is.keeps.here) is.known is.has
+      (codes : map (λ (f : Found). f.code) found ≡ (ground_process b.problem).choices s) (l : Knowledge) (is : IsChosen b k l id s found) where
+    raise_is_allowed : CanRaise l.view id (least_low b.problem.penalty s found)
+    raise_is_allowed = can_raise b.problem problem k.view l.view s off found codes (found_at l of is) id (problem_of b l is.keeps.here) is.known is.has
 
-    pub sink_is_allowed : (l : Knowledge) → IsChosen b k l id s found → CanSink l.view id (least_word b.problem.penalty s found)
-    sink_is_allowed l is = (
+    sink_is_allowed : CanSink l.view id (least_word b.problem.penalty s found)
+    sink_is_allowed = (
       is.known,
       (
         s,
@@ -113,32 +107,16 @@ module _ (b : Board) (k : Knowledge) (id : ℕ) (s : State) (found : List Found)
       ),
     )
 
-    -- l before the raise, m after it, n after the sink
-    module _ (l m n : Knowledge) (is : IsChosen b k l id s found) (lower word : ℕ) (low_is : lower ≡ least_low b.problem.penalty s found)
-        (word_is : word ≡ least_word b.problem.penalty s found) (raised : m ≡ knowledge l.table (with_lower l.view id lower))
-        (sunk : n ≡ knowledge m.table (with_upper m.view id word)) where
-      pub finished : IsChosen b k n id s found
-      finished = chosen_sunk m n word (chosen_raised l m lower is raised) sunk
-
-      lower_is_seen : lower ≤ seen_lower n.view s
-      lower_is_seen =
-          let first : lower ≤ seen_lower (with_lower l.view id lower) s =
-          raised_is_seen (with_lower l.view id lower) (number id lower) s (is_first (number id lower) l.view.lower) is.has in
-          let at : lower ≤ seen_lower m.view s = subst (λ (x : Knowledge). lower ≤ seen_lower x.view s) (sym raised) first in
-          let later = (grows b m n (keeps_sunk b m n id word (chosen_raised l m lower is raised).keeps.here sunk)).later.lower s in omega arith
-
-      word_is_seen : seen_upper n.view s ≤ word
-      word_is_seen =
-          let has = (chosen_raised l m lower is raised).has in
-          subst (λ (x : Knowledge). seen_upper x.view s ≤ word) (sym sunk)
-          (sunk_is_seen (with_upper m.view id word) (number id word) s (is_first (number id word) m.view.upper) has)
-
-      pub backs_up : IsBackedUp b.problem k.view n.view s
-      backs_up =
-          let each = found_at l of is in
-          let low = lower_is_backed b.problem problem k.view l.view s off found codes each in
-          let high = upper_is_backed b.problem problem k.view l.view s off found codes each in
-          let seen = lower_is_seen in let seen' = word_is_seen in record { lower = omega arith; upper = omega arith }
+    -- these numbers were noted since
+    backs_up : (n : Knowledge) → HasMore l.view n.view → least_low b.problem.penalty s found ≤ noted_lower n.view id
+        → noted_upper n.view id ≤ least_word b.problem.penalty s found → IsBackedUp b.problem k.view n.view s
+    backs_up n more raised sunk =
+        let each = found_at l of is in
+        let low = lower_is_backed b.problem problem k.view l.view s off found codes each in
+        let high = upper_is_backed b.problem problem k.view l.view s off found codes each in
+        let has = has_state_more l.view n.view more id s is.has in
+        let seen = noted_lower_is_seen n.view id s has in let seen' = noted_upper_is_seen n.view id s has in
+        record { lower = omega arith; upper = omega arith }
 
 pub narrows_all : (g : Ground) (v w : View) (id : ℕ) (s : State) → IsStateOf v w id s → IsBackedUp g v w s → Narrows g v w id
 narrows_all g v w id s state backed t had = subst (IsBackedUp g v w) (sym (state.one t had)) backed
@@ -231,79 +209,47 @@ module _ (b : Board) (k l : Knowledge) (id : ℕ) (last : Last) (here : IsOf b l
   pub known_at_goal : All (LeadsToKnown (knows l.view)) last.steps
   known_at_goal = subst (λ (x : Last). All (LeadsToKnown (knows l.view)) x.steps) (sym rest.last_is) (All-nil (LeadsToKnown (knows l.view)))
 
--- ---- the whole backup off goals
+-- ---- the whole backup off goals, once ids of one state are known to be one id
 
-module _ (b : Board) (k k2 k3 : Knowledge) (id : ℕ) (last : Last) (lower word n : ℕ) (of : IsOf b k) (known : knows k.view id) (second : Keeps b k k2)
-    (w : HasWeighed b k k2 id last lower word) (one : HasOneEach k2.view) (count : k3 ≡ knowledge k2.table (with_count k2.view n)) where
-  third : Keeps b k2 k3
-  third = keeps_count b k2 k3 n second.here count
-
-  is_weighed : IsChosen b k k3 id w.state w.found
+module _ (b : Board) (k l m : Knowledge) (id : ℕ) (last : Last) (lower word : ℕ) (of : IsOf b k) (known : knows k.view id) (first : Keeps b k l)
+    (w : HasWeighed b k l id last lower word) (second : Keeps b l m) (one : HasOneEach m.view) where
+  is_weighed : IsChosen b k m id w.state w.found
   is_weighed = record {
-    keeps = keeps_again b k k2 k3 second third;
-    known = third.noted.known id (second.noted.known id known);
-    has = has_state_more k2.view k3.view third.noted id w.state w.is.has;
-    one = subst (λ (x : Knowledge). HasOneEach x.view) (sym count) one;
-    each = All-weaker (IsReadAction b.problem k.view k2.view w.state) (IsReadAction b.problem k.view k3.view w.state)
-        (λ f. found_stays b.problem k.view k.view k2.view k3.view w.state f (grows_all k.view) (grows b k2 k3 third)) w.found w.each;
+    keeps = keeps_again b k l m first second;
+    known = second.noted.known id (first.noted.known id known);
+    has = has_state_more l.view m.view second.noted id w.state w.is.has;
+    one = one;
+    each = All-weaker (IsReadAction b.problem k.view l.view w.state) (IsReadAction b.problem k.view m.view w.state)
+        (λ f. found_stays b.problem k.view k.view l.view m.view w.state f (grows_all k.view) (grows b l m second)) w.found w.each;
   }
 
-  pub may_raise : CanRaise k3.view id lower
-  may_raise = subst (CanRaise k3.view id) (sym w.lower_is) (raise_is_allowed b k id w.state w.found of w.problem w.off_goal w.codes k3 is_weighed)
+  each_is_found : All (IsFound b.problem k.view m.view w.state) w.found
+  each_is_found = found_at b k id w.state w.found m of is_weighed
 
-  module _ (k4 : Knowledge) (raised : k4 ≡ knowledge k3.table (with_lower k3.view id lower)) where
-    is_raised : IsChosen b k k4 id w.state w.found
-    is_raised = chosen_raised b k id w.state w.found k3 k4 lower is_weighed raised
+  pub may_raise : CanRaise m.view id lower
+  may_raise = subst (CanRaise m.view id) (sym w.lower_is) (raise_is_allowed b k id w.state w.found of w.problem w.off_goal w.codes m is_weighed)
 
-    pub may_sink : CanSink k4.view id word
-    may_sink = subst (CanSink k4.view id) (sym w.word_is) (sink_is_allowed b k id w.state w.found of w.problem w.off_goal w.codes k4 is_raised)
+  pub may_sink : CanSink m.view id word
+  may_sink = subst (CanSink m.view id) (sym w.word_is) (sink_is_allowed b k id w.state w.found of w.problem w.off_goal w.codes m is_weighed)
 
-    module _ (k5 : Knowledge) (sunk : k5 ≡ knowledge k4.table (with_upper k4.view id word)) where
-      at_end : IsChosen b k k5 id w.state w.found
-      at_end = finished b k id w.state w.found of w.problem w.off_goal w.codes k3 k4 k5 is_weighed lower word w.lower_is w.word_is raised sunk
+  pub choices_then : AreChoices last
+  choices_then = are_choices b.problem k.view m.view w.state w.problem w.found last w.answer each_is_found
 
-      each_at_end : All (IsFound b.problem k.view k5.view w.state) w.found
-      each_at_end = found_at b k id w.state w.found k5 of at_end
+  pub known_then : All (LeadsToKnown (knows m.view)) last.steps
+  known_then = are_known b.problem k.view m.view w.state w.found last w.answer each_is_found
 
-      last_sink : Keeps b k4 k5
-      last_sink = keeps_sunk b k4 k5 id word is_raised.keeps.here sunk
+  pub backed_then : m.view.loads ≡ l.view.loads → lower ≤ noted_lower m.view id → noted_upper m.view id ≤ word → HasBackedUp b.problem k.view m.view id last
+  backed_then loads raised sunk =
+      let low = w.lower_is in let high = w.word_is in
+      has_backed_up b.problem k.view m.view id w.state last w.found (record { has = is_weighed.has; one = w.is.one }) w.off_goal w.codes each_is_found
+      (loads ∙ w.loads) w.answer (omega arith) (omega arith)
 
-      fourth : Keeps b k2 k5
-      fourth = keeps_again b k2 k3 k5 third (keeps_again b k3 k4 k5 (keeps_raised b k3 k4 id lower is_weighed.keeps.here raised) last_sink)
-
-      state_at_end : IsStateOf k.view k5.view id w.state
-      state_at_end = record { has = has_state_more k2.view k5.view fourth.noted id w.state w.is.has; one = w.is.one }
-
-      pub keeps_at_end : Keeps b k k5
-      keeps_at_end = at_end.keeps
-
-      pub narrows_at_end : Narrows b.problem k.view k5.view id
-      narrows_at_end = narrows_all b.problem k.view k5.view id w.state state_at_end
-          (backs_up b k id w.state w.found of w.problem w.off_goal w.codes k3 k4 k5 is_weighed lower word w.lower_is w.word_is raised sunk)
-
-      pub choices_at_end : AreChoices last
-      choices_at_end = are_choices b.problem k.view k5.view w.state w.problem w.found last w.answer each_at_end
-
-      pub known_at_end : All (LeadsToKnown (knows k5.view)) last.steps
-      known_at_end = are_known b.problem k.view k5.view w.state w.found last w.answer each_at_end
-
-      loads_at_end : k5.view.loads ≡ loads_in (flat_map (λ (f : Found). f.readings) w.found) ++ k.view.loads
-      loads_at_end = ap (λ (x : Knowledge). x.view.loads) sunk ∙ ap (λ (x : Knowledge). x.view.loads) raised ∙ ap (λ (x : Knowledge). x.view.loads) count ∙ w.loads
-
-      raised_is_noted : lower ≤ noted_lower k4.view id
-      raised_is_noted = subst (λ (x : Knowledge). lower ≤ noted_lower x.view id) (sym raised)
-          (greatest_over (λ i. nat_eq i id) (with_lower k3.view id lower).lower (number id lower) (is_first (number id lower) k3.view.lower) (eq-eqb id id refl))
-
-      sunk_is_noted : noted_upper k5.view id ≤ word
-      sunk_is_noted = subst (λ (x : Knowledge). noted_upper x.view id ≤ word) (sym sunk)
-          (least_under (λ i. nat_eq i id) (quit_word k4.view.problem.penalty) (with_upper k4.view id word).upper (number id word) (is_first (number id word) k4.view.upper) (eq-eqb id id refl))
-
-      pub backed_at_end : HasBackedUp b.problem k.view k5.view id last
-      backed_at_end =
-          let low = w.lower_is in let high = w.word_is in
-          let over = raised_is_noted in let under = sunk_is_noted in
-          let later = (grows b k4 k5 last_sink).later.noted_lower id in
-          has_backed_up b.problem k.view k5.view id w.state last w.found state_at_end w.off_goal w.codes each_at_end loads_at_end w.answer (omega arith) (omega arith)
+  pub narrows_since : (n : Knowledge) → HasMore m.view n.view → lower ≤ noted_lower n.view id → noted_upper n.view id ≤ word
+      → Narrows b.problem k.view n.view id
+  narrows_since n more raised sunk =
+      let low = w.lower_is in let high = w.word_is in
+      narrows_all b.problem k.view n.view id w.state (record { has = has_state_more m.view n.view more id w.state is_weighed.has; one = w.is.one })
+      (backs_up b k id w.state w.found of w.problem w.off_goal w.codes m is_weighed n more (omega arith) (omega arith))
 
 -- ---- by one fact
 
@@ -315,17 +261,34 @@ module _ (b : Board) (k k2 k5 : Knowledge) (id : ℕ) (last : Last) (lower word 
   abbrev lowered : Knowledge
   lowered = knowledge k2.table (with_lower (with_count k2.view narrowed.0) id lower)
 
+  third : Keeps b k2 k5
+  third =
+      let count = keeps_count b k2 counted narrowed.0 second.here refl in
+      let raise = keeps_raised b counted lowered id lower count.here refl in
+      keeps_again b k2 counted k5 count (keeps_again b counted lowered k5 raise (keeps_sunk b lowered k5 id word raise.here narrowed.1))
+
+  one_each : HasOneEach k5.view
+  one_each = subst (λ (x : Knowledge). HasOneEach x.view) (sym narrowed.1) one
+
+  is_raised : lower ≤ noted_lower k5.view id
+  is_raised = subst (λ (x : Knowledge). lower ≤ noted_lower x.view id) (sym narrowed.1)
+      (greatest_over (λ i. nat_eq i id) (number id lower ∷ k2.view.lower) (number id lower) (is_first (number id lower) k2.view.lower) (eq-eqb id id refl))
+
+  is_sunk : noted_upper k5.view id ≤ word
+  is_sunk = subst (λ (x : Knowledge). noted_upper x.view id ≤ word) (sym narrowed.1)
+      (least_under (λ i. nat_eq i id) (quit_word k2.view.problem.penalty) (number id word ∷ k2.view.upper) (number id word) (is_first (number id word) k2.view.upper) (eq-eqb id id refl))
+
   pub settled_keeps : Keeps b k k5
-  settled_keeps = keeps_at_end b k k2 counted id last lower word narrowed.0 of known second w one refl lowered refl k5 narrowed.1
+  settled_keeps = keeps_again b k k2 k5 second third
 
   pub settled_narrows : Narrows b.problem k.view k5.view id
-  settled_narrows = narrows_at_end b k k2 counted id last lower word narrowed.0 of known second w one refl lowered refl k5 narrowed.1
+  settled_narrows = narrows_since b k k2 k5 id last lower word of known second w third one_each k5 (has_all k5.view) is_raised is_sunk
 
   pub settled_choices : AreChoices last
-  settled_choices = choices_at_end b k k2 counted id last lower word narrowed.0 of known second w one refl lowered refl k5 narrowed.1
+  settled_choices = choices_then b k k2 k5 id last lower word of known second w third one_each
 
   pub settled_known : All (LeadsToKnown (knows k5.view)) last.steps
-  settled_known = known_at_end b k k2 counted id last lower word narrowed.0 of known second w one refl lowered refl k5 narrowed.1
+  settled_known = known_then b k k2 k5 id last lower word of known second w third one_each
 
   pub settled_backed : HasBackedUp b.problem k.view k5.view id last
-  settled_backed = backed_at_end b k k2 counted id last lower word narrowed.0 of known second w one refl lowered refl k5 narrowed.1
+  settled_backed = backed_then b k k2 k5 id last lower word of known second w third one_each (ap (λ (x : Knowledge). x.view.loads) narrowed.1) is_raised is_sunk

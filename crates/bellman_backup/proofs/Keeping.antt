@@ -4,7 +4,7 @@ use Rattle.word_view.specs.declared.notes.Look.{Look}
 use Rattle.word_view.specs.declared.notes.Look.TheVariants.{End}
 use Rattle.word_view.specs.declared.view.View.{View}
 use Rattle.word_view.specs.Laws.{HasMore}
-use Rattle.word_view.specs.Steps.{with_lower, with_upper, with_count, with_state_word, united, without_rights}
+use Rattle.word_view.specs.Steps.{with_lower, with_upper, with_lower_load, with_upper_load, with_count, with_state_word, united, without_rights}
 use Rattle.word_view.proofs.Seen.{more_is_later}
 use Rattle.word_view.proofs.Noting.{noted_is_more, united_is_more}
 use Rattle.word_table.specs.Seen.{Board, Knowledge, knowledge, IsOf}
@@ -62,6 +62,12 @@ keeps_sunk b k l id x of is = keeps_step b k l (with_upper k.view id x) of is re
 pub keeps_interval : (b : Board) (k l : Knowledge) (id : ℕ) (i : Interval) → IsOf b k → l ≡ knowledge k.table (with_interval k.view id i) → Keeps b k l
 keeps_interval b k l id i of is = keeps_step b k l (with_interval k.view id i) of is refl refl
     (has_more_again k.view _ (with_interval k.view id i) ((noted_is_more k.view).lower_load id i.lower) ((noted_is_more _).upper_load id (word_in i))) ([], refl)
+
+pub keeps_lower_load : (b : Board) (k l : Knowledge) (id n : ℕ) → IsOf b k → l ≡ knowledge k.table (with_lower_load k.view id n) → Keeps b k l
+keeps_lower_load b k l id n of is = keeps_step b k l (with_lower_load k.view id n) of is refl refl ((noted_is_more k.view).lower_load id n) ([], refl)
+
+pub keeps_upper_load : (b : Board) (k l : Knowledge) (id x : ℕ) → IsOf b k → l ≡ knowledge k.table (with_upper_load k.view id x) → Keeps b k l
+keeps_upper_load b k l id x of is = keeps_step b k l (with_upper_load k.view id x) of is refl refl ((noted_is_more k.view).upper_load id x) ([], refl)
 
 pub keeps_count : (b : Board) (k l : Knowledge) (n : ℕ) → IsOf b k → l ≡ knowledge k.table (with_count k.view n) → Keeps b k l
 keeps_count b k l n of is = keeps_step b k l (with_count k.view n) of is refl refl ((noted_is_more k.view).count n) (count_looks (nat_eq n k.view.layout.ids) k.view.looks)

@@ -1,11 +1,11 @@
 -- Readings by what is kept of a state.
-use Rattle.std.proofs.Common.{◌≡◌, ℕ, ◌+◌, ◌*◌, ◌/◌, ◌<◌, ◌≤◌, ◌^◌, min, Some, List, [], ◌∷◌, ◌++◌, length, map, take, get_or, refl, sym, ap, ◌∙◌, subst, arith}
+use Rattle.std.proofs.Common.{◌≡◌, ℕ, ◌+◌, ◌-◌, ◌*◌, ◌/◌, ◌<◌, ◌≤◌, ◌^◌, min, Some, List, [], ◌∷◌, ◌++◌, length, map, take, get_or, refl, sym, ap, ◌∙◌, subst, arith}
 use Rattle.std.specs.Prelude.{Contains, Option}
 use Rattle.std.specs.Int.{div_ceil}
 use Rattle.std.specs.List.{slice_get, AllZip}
 use Rattle.std.proofs.Math.Nat.{mul-add}
-use Rattle.std.proofs.lemmas.List.{append-nil, length_push}
-use Rattle.std.proofs.lemmas.List.Elements.{All-contains}
+use Rattle.std.proofs.lemmas.List.{append-nil, length_push, take_more}
+use Rattle.std.proofs.lemmas.Option.{slice_get_read, slice_get_within, slice_get-get_or, get_or_from_slice_get}
 use Rattle.fixed_round.specs.Means.{weighted}
 use Rattle.fixed_round.specs.Words.{word_of, value_of}
 use Rattle.weighted.specs.Mean.{total}
@@ -15,8 +15,9 @@ use Rattle.ground_model.specs.declared.limits.TheConstants.{MOST_PENALTY}
 use Rattle.ground_model.specs.Packed.{State, has_bit}
 use Rattle.ground_model.specs.Choices.{cost_of, next_state}
 use Rattle.ground_model.specs.Ground.{Ground}
-use Rattle.ground_model.specs.Invariant.{IsAction}
+use Rattle.ground_model.specs.Invariant.{IsAction, IsGroundProblem}
 use Rattle.ground_model.specs.Steps.{ground_process}
+use Rattle.ground_model.proofs.Steps.{slice_get-contains}
 use Rattle.word_view.specs.declared.view.View.{View}
 use Rattle.word_view.specs.Views.{knows}
 use Rattle.word_view.specs.Laws.{HasMore}
@@ -33,14 +34,14 @@ use Rattle.bellman_backup.specs.declared.best.Best.{Best}
 use Rattle.bellman_backup.specs.declared.sums.Sums.{Sums}
 use Rattle.bellman_backup.specs.Races.{has_all}
 use Rattle.bellman_backup.specs.Readings.{Reading, IsRead}
-use Rattle.bellman_backup.specs.Candidates.{choice_weights}
 use Rattle.bellman_backup.specs.Backups.{Keeps, IsStateOf}
 use Rattle.bellman_backup.specs.Choosing.{HasChosen}
-use Rattle.bellman_backup.specs.Kept.{cost_of_all, LeadsTo, IsKeptAction, IsKeptAt, AreKept, IsKeptState, IsKeeping}
+use Rattle.bellman_backup.specs.Kept.{LeadsTo, IsKeptAction, IsKeptAt, AreKept, IsKeptState, IsKeeping}
 use Rattle.bellman_backup.specs.Totals.{IsSmallStep, HasReadNext, HasRead, HasReadAction}
 use Rattle.bellman_backup.proofs.Keeping.{keeps_all, keeps_again, grows}
-use Rattle.bellman_backup.proofs.KeptRows.{id_later, actions_later, kept_still, state_later}
+use Rattle.bellman_backup.proofs.KeptRows.{id_later, kept_still, state_later}
 use Rattle.bellman_backup.proofs.Summing.{nothing_read, read_more, product_within}
+use Rattle.bellman_backup.proofs.Narrowing.{action_is}
 use Rattle.bellman_backup.proofs.Answering.{weight_within}
 use Rattle.bellman_backup.proofs.Finishing.{action_goes_on}
 
@@ -119,6 +120,38 @@ next_is_read b k l m ids a kept i id c x s is later here at read =
 
 pub id_is_known : (k l : View) (s : State) (ids : List ℕ) (place id : ℕ) (c : Choice) → LeadsTo k s ids place c → HasMore k l → slice_get ids place ≡ Some id → knows l id
 id_is_known k l s ids place id c leads later at = subst (knows l) (same_id ids place leads.0 id leads.1 at) (later.known leads.0 leads.2.known)
+
+-- the choice in this place, and the id of the state to which it leads
+pub record IsChoiceAt (l : View) (ids : List ℕ) (a : GroundAction) (kept : KeptAction) (i : ℕ) (c : Choice) : Type 0 where
+  pub here : slice_get a.choices i ≡ Some c
+  pub inside : kept.first + i < length ids
+  pub at : slice_get ids (kept.first + i) ≡ Some (get_or ids (kept.first + i) 0)
+  pub known : knows l (get_or ids (kept.first + i) 0)
+  pub so_far : take (i + 1) a.choices ≡ take i a.choices ++ c ∷ []
+
+pub is_choice_at : (k l : View) (s : State) (ids : List ℕ) (a : GroundAction) (kept : KeptAction) → IsKeptAction k s ids a kept → HasMore k l
+    → (choices : List Choice) → choices ≡ a.choices → (i : ℕ) → i < length choices → (c : Choice) → c ≡ get_or choices i c → IsChoiceAt l ids a kept i c
+is_choice_at k l s ids a kept is later choices same i below c read =
+    let here : slice_get a.choices i ≡ Some c =
+    subst (λ (cs : List Choice). slice_get cs i ≡ Some c) same (slice_get_read choices (length choices) i c refl below read) in
+    let leads = is.next i c here in
+    let inside : kept.first + i < length ids = slice_get_within ids (kept.first + i) leads.0 leads.1 in
+    let at : slice_get ids (kept.first + i) ≡ Some (get_or ids (kept.first + i) 0) = slice_get-get_or ids (kept.first + i) 0 inside in record {
+      here = here;
+      inside = inside;
+      at = at;
+      known = id_is_known k l s ids (kept.first + i) (get_or ids (kept.first + i) 0) c leads later at;
+      so_far = take_more a.choices i c (subst (λ (cs : List Choice). i < length cs) same below)
+          ∙ ap (λ d. take i a.choices ++ d ∷ []) (get_or_from_slice_get a.choices i c c here);
+    }
+
+pub choice_is_small : (b : Board) (k l m : Knowledge) (s : State) (ids : List ℕ) (a : GroundAction) (kept : KeptAction) (i : ℕ) (c : Choice) (x : Step)
+    → IsAction (length b.problem.atoms) a → b.problem.penalty ≤ MOST_PENALTY → IsKeptAction k.view s ids a kept → HasMore k.view l.view
+    → IsChoiceAt l.view ids a kept i c
+    → ((t : State) → IsIdOf l.view t (get_or ids (kept.first + i) 0) → HasReadNext b.problem l.view m.view t c.weight x) → IsSmallStep 0 x
+choice_is_small b k l m s ids a kept i c x action penalty is later here read =
+    kept_step_is_small b.problem l.view m.view (next_state s c) a c x action penalty (slice_get-contains a.choices i c here.here)
+    (next_is_read b k l m ids a kept i (get_or ids (kept.first + i) 0) c x s is later here.here here.at read)
 
 module _ (b : Board) (k l m : Knowledge) (ids : List ℕ) (a : GroundAction) (kept : KeptAction) (steps steps' : List Step) (sums sums' : Sums) (i id : ℕ) (c : Choice) (x : Step)
     (so : KeptSoFar b k l ids a kept steps sums i) (here : slice_get a.choices i ≡ Some c) (more : take (i + 1) a.choices ≡ take i a.choices ++ c ∷ [])
@@ -199,6 +232,50 @@ module _ (b : Board) (l : Knowledge) (s : State) (t : Transitions) (row : KeptRo
 
     pub action_is_kept : IsKeptAction l.view s t.ids a own
     action_is_kept = subst (λ x. IsKeptAction l.view s t.ids x own) own_action own_is_kept.kept
+
+abbrev pub first_kept : KeptAction
+first_kept = record { cost = 0; first = 0; code = 0 }
+
+pub record IsOwnAt (b : Board) (l : Knowledge) (s : State) (t : Transitions) (row : KeptRow) (i : ℕ) (actions : List KeptAction) (own : KeptAction) :
+    Type 0 where
+  pub are : AreKept l.view s b.problem t row
+  pub below : i < length ((ground_process b.problem).choices s)
+  pub inside : row.first + i < length actions
+  pub here : slice_get t.actions (row.first + i) ≡ Some own
+  pub coded : own.code < length b.problem.actions
+
+pub is_own_at : (b : Board) (k l : Knowledge) (s : State) (t : Transitions) (row : KeptRow) (i : ℕ) (actions : List KeptAction)
+    → HasMore k.view l.view → AreKept k.view s b.problem t row → i < row.past - row.first → actions ≡ t.actions
+    → IsOwnAt b l s t row i actions (get_or actions (row.first + i) first_kept)
+is_own_at b k l s t row i actions later are within same =
+    let codes : List ℕ = (ground_process b.problem).choices s in
+    let own : KeptAction = get_or actions (row.first + i) first_kept in
+    let below : i < length codes = (let n = are.count in omega arith) in
+    let e = are.each i below in
+    let inside : row.first + i < length actions = (let w = slice_get_within t.actions (row.first + i) e.0 e.1 in let n = ap length same in omega arith) in
+    let here : slice_get t.actions (row.first + i) ≡ Some own =
+    subst (λ (xs : List KeptAction). slice_get xs (row.first + i) ≡ Some own) same (slice_get-get_or actions (row.first + i) first_kept inside) in
+    let still = kept_still k.view l.view later s b.problem t row are in
+    let is : IsKeptAt l.view s b.problem t.ids (get_or codes i 0) own = own_is_kept b l s t row still i own below here in
+    let within_all = slice_get_within b.problem.actions (get_or codes i 0) is.action is.here in
+    let code = is.code_is in record { are = still; below = below; inside = inside; here = here; coded = omega arith }
+
+pub record IsActionAt (b : Board) (l : Knowledge) (s : State) (t : Transitions) (own : KeptAction) (a : GroundAction) : Type 0 where
+  pub coded : slice_get b.problem.actions own.code ≡ Some a
+  pub is : IsAction (length b.problem.atoms) a
+  pub kept : IsKeptAction l.view s t.ids a own
+
+pub is_action_at : (b : Board) (l : Knowledge) (s : State) (t : Transitions) (row : KeptRow) (i : ℕ) (actions : List KeptAction) (own : KeptAction)
+    → IsOwnAt b l s t row i actions own → IsGroundProblem b.problem → (all : List GroundAction) → all ≡ b.problem.actions → (a : GroundAction)
+    → a ≡ get_or all own.code a → IsActionAt b l s t own a
+is_action_at b l s t row i actions own at problem all same a read =
+    let inside : own.code < length all = (let n = ap length same in let c = at.coded in omega arith) in
+    let coded : slice_get b.problem.actions own.code ≡ Some a =
+    subst (λ (xs : List GroundAction). slice_get xs own.code ≡ Some a) same (slice_get_read all (length all) own.code a refl inside read) in record {
+      coded = coded;
+      is = action_is b.problem problem own.code a coded;
+      kept = action_is_kept b l s t row at.are i own at.below at.here a coded;
+    }
 
 pub chosen_goes_on : (b : Board) (k l m : Knowledge) (t : Transitions) (row : KeptRow) (chosen chosen' tried : List Step) (best best' : Best) (i : ℕ) (own : KeptAction) (a : GroundAction)
     (sums : Sums) → KeptChosen b k l t row chosen best i → Keeps b l m

@@ -10,5 +10,7 @@ pub mod Finishing
 pub mod KeptRows
 pub mod TransitionsKept
 pub mod KeptReads
+pub mod Quotients
+pub mod Leasts
 pub mod Racers
 pub mod StartWeights

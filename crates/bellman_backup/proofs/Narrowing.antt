@@ -12,7 +12,7 @@ use Rattle.decision_process.specs.Backup.{action_value, lower_candidate, lower_b
 use Rattle.decision_process.specs.Following.{IsLowerFrom, IsUpperFrom}
 use Rattle.decision_process.proofs.Choice.{min_with_is_least}
 use Rattle.decision_process.proofs.Rounding.{floor_is_greatest, ceiling_is_least}
-use Rattle.decision_process.proofs.Backups.{lower_backup_follows, upper_backup_follows}
+use Rattle.decision_process.proofs.Backups.{lower_backup_follows, lower_backup_rises, upper_backup_follows, upper_backup_rises}
 use Rattle.ground_model.specs.declared.action.Choice.{Choice}
 use Rattle.ground_model.specs.declared.action.GroundAction.{GroundAction}
 use Rattle.ground_model.specs.Packed.{State, has_bit}
@@ -26,9 +26,10 @@ use Rattle.bound_core.specs.declared.codes.TheConstants.{GIVE_UP}
 use Rattle.bound_core.specs.Numbers.{act_of, first_word, quit_word, IsSupported}
 use Rattle.word_view.specs.declared.view.View.{View}
 use Rattle.word_view.specs.Views.{knows, has_state, seen_lower, seen_upper, CanRaise}
+use Rattle.word_view.specs.Laws.{IsLater}
 use Rattle.bellman_backup.specs.Readings.{Reading, IsReading}
 use Rattle.bellman_backup.specs.Candidates.{Found, sum_of, low, high, act_word, least_low, least_word}
-use Rattle.bellman_backup.specs.Backups.{IsFound, IsBackedUp}
+use Rattle.bellman_backup.specs.Backups.{IsFound, IsBackedUp, Narrows}
 use Rattle.bellman_backup.proofs.NextRead.{first_at_goal, seen_within_first}
 use Rattle.bellman_backup.proofs.Summing.{zip_weaker, sum_below, sum_above}
 
@@ -204,3 +205,13 @@ goal_is_backed g v w s same on =
     = ap (λ b. cond b 0 (min_with g.penalty (λ a. lower_candidate (ground_process g) (seen_lower v) a s) ((ground_process g).choices s))) on in
     let first : seen_upper w s ≤ first_word g s = subst (λ (p : Ground). seen_upper w s ≤ first_word p s) same (seen_within_first w s) in
     let is = first_at_goal g s on in record { lower = omega arith; upper = omega arith }
+
+-- ---- a backup of what was seen later is one of what was seen before
+
+pub narrows_earlier : (g : Ground) (u v w : View) (id : ℕ) → IsLater u v → Narrows g v w id → Narrows g u w id
+narrows_earlier g u v w id later narrows s had =
+    let is = narrows s (later.states id s had) in
+    let low = lower_backup_rises (ground_process g) (seen_lower u) (seen_lower v) s (λ _ a _ o _. later.lower o.next) in
+    let high = upper_backup_rises (ground_process g) (λ t. value_of (seen_upper v t)) (λ t. value_of (seen_upper u t)) s
+    (λ _ a _ o _. value_rises (seen_upper v o.next) (seen_upper u o.next) (later.upper o.next)) in
+    let lower = is.lower in let upper = is.upper in record { lower = omega arith; upper = omega arith }

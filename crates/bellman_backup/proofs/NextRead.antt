@@ -36,6 +36,12 @@ first_within g t = elim (cases_Bool ((ground_process g).goal t)) [
   | inr off ↦ (let is = first_off_goal g t off in omega arith)
 ]
 
+pub first_within_quit : (g : Ground) (t : State) → first_word g t ≤ quit_word g.penalty
+first_within_quit g t = elim (cases_Bool ((ground_process g).goal t)) [
+  | inl on ↦ (let is = first_at_goal g t on in omega arith)
+  | inr off ↦ (let is = first_off_goal g t off in omega arith)
+]
+
 pub seen_within_first : (v : View) (t : State) → seen_upper v t ≤ first_word v.problem t
 seen_within_first v t = least_first (λ id. has_state v id t) (first_word v.problem t) v.upper
 

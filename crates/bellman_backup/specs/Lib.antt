@@ -8,4 +8,5 @@ pub mod Backups
 pub mod Totals
 pub mod Choosing
 pub mod Weighing
+pub mod Leasts
 pub mod Races

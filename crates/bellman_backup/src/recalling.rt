@@ -100,7 +100,7 @@ fn best_of_kept(
 }
 
 /// The pass learns what the witness has noted, and looks at the state of an id.
-fn recall(words: &Words<'_>, pass: &mut Pass, id: u32, witness: &mut Pass)
+pub(crate) fn recall(words: &Words<'_>, pass: &mut Pass, id: u32, witness: &mut Pass)
     requires here { IsOf words.now pass.old × IsOf words.now witness.old }
     requires known { knows pass.old.view id }
     ensures keeps { Keeps words.now pass.old pass.new }

@@ -1,0 +1,73 @@
+use Rattle.std.proofs.Common.{◌≡◌, Some, sym, ap, ◌∙◌, subst}
+use Rattle.kept_transitions.specs.Rows.{IsKept}
+use Rattle.bellman_backup.specs.Scratches.{ScratchView}
+use Rattle.bellman_backup.specs.Kept.{IsKeeping}
+use Rattle.bellman_backup.proofs.KeptReads.{row_is_recalled}
+use Rattle.bellman_backup.proofs.Keeping.{keeps_again, keeps_lower_load, keeps_upper_load}
+use Rattle.bellman_backup.proofs.Leasts.{can_narrow, narrow_keeps, narrow_narrows}
+use Rattle.bellman_backup.proofs.unasked.narrow.Goals as goal
+
+pub load_upper-upper-requires-clause-known : goal.load_upper-upper-requires-clause-known
+load_upper-upper-requires-clause-known c =
+    (keeps_lower_load c.args.words.now c.args.pass.now c.load_lower-lower.new.pass c.args.id c.load_lower-lower.result c.requires.here c.load_lower-lower.ensures.seen).noted.known
+    c.args.id c.requires.known
+
+pub recall-requires-clause-known : goal.recall-requires-clause-known
+recall-requires-clause-known c =
+    let b = c.args.words.now in let k = c.args.pass.now in let l = c.load_lower-lower.new.pass in let m = c.load_upper-upper.new.pass in let id = c.args.id in
+    let first = keeps_lower_load b k l id c.load_lower-lower.result c.requires.here c.load_lower-lower.ensures.seen in
+    (keeps_again b k l m first (keeps_upper_load b l m id c.load_upper-upper.result first.here c.load_upper-upper.ensures.seen)).noted.known id c.requires.known
+
+pub least_of_kept-least-requires-clause-kept : goal.least_of_kept-least-requires-clause-kept
+least_of_kept-least-requires-clause-kept c =
+    let b = c.args.words.now in let g = b.problem in let k = c.args.pass.now in let k0 = c.load_upper-upper.new.pass in let k1 = c.recall.new.pass in
+    let p = c.scratch.inside.index in let old = c.scratch.inside.witness in let t = c.scratch.inside.kept in let row = c.row-row.result in
+    let same : p ≡ g = ap (λ (v : ScratchView). v.problem) c.scratch.view_is ∙ c.requires.scratch.problem in
+    let had : old ≡ Some c.in-Some.witness = sym c.take.ensures.value ∙ c.in-Some.is in
+    let kept : IsKept row = c.is_kept.ensures.0 c.if-not-is_kept.false in
+    let is = row_is_recalled g p old c.in-Some.witness k1.view c.args.id t row same c.scratch.invariant.1 had kept c.row-row.ensures c.recall.ensures.heard in
+    (is.state, is.actions)
+
+pub narrow_from-requires-clause-can : goal.narrow_from-requires-clause-can
+narrow_from-requires-clause-can c =
+    let b = c.args.words.now in let g = b.problem in let k = c.args.pass.now in let k0 = c.load_upper-upper.new.pass in let k1 = c.recall.new.pass in
+    let p = c.scratch.inside.index in let old = c.scratch.inside.witness in let t = c.scratch.inside.kept in let row = c.row-row.result in
+    let same : p ≡ g = ap (λ (v : ScratchView). v.problem) c.scratch.view_is ∙ c.requires.scratch.problem in
+    let had : old ≡ Some c.in-Some.witness = sym c.take.ensures.value ∙ c.in-Some.is in
+    let kept : IsKept row = c.is_kept.ensures.0 c.if-not-is_kept.false in
+    let is = row_is_recalled g p old c.in-Some.witness k1.view c.args.id t row same c.scratch.invariant.1 had kept c.row-row.ensures c.recall.ensures.heard in
+    can_narrow b k c.load_lower-lower.new.pass k0 k1 c.least_of_kept-least.new.pass c.args.id c.load_lower-lower.result c.load_upper-upper.result t row c.least_of_kept-least.result
+    c.requires.here c.requires.known c.load_lower-lower.ensures.seen c.load_upper-upper.ensures.seen c.recall.ensures.keeps c.recall.ensures.loads c.recall.ensures.state is
+    c.least_of_kept-least.ensures.problem c.least_of_kept-least.ensures.keeps c.least_of_kept-least.ensures.least
+
+pub invariant_of-scratch : goal.invariant_of-scratch
+invariant_of-scratch c =
+    let p = c.scratch.inside.index in let old = c.scratch.inside.witness in let t = c.scratch.inside.kept in
+    let had : old ≡ Some c.recall.new.witness = sym c.take.ensures.value ∙ c.in-Some.is ∙ ap Some (sym c.recall.ensures.witness) in
+    (c.scratch.invariant.0, subst (λ o. IsKeeping p o t) had c.scratch.invariant.1)
+
+pub returns-clause-keeps : goal.returns-clause-keeps
+returns-clause-keeps c =
+    let b = c.args.words.now in let g = b.problem in let k = c.args.pass.now in let k0 = c.load_upper-upper.new.pass in let k1 = c.recall.new.pass in
+    let p = c.scratch.inside.index in let old = c.scratch.inside.witness in let t = c.scratch.inside.kept in let row = c.row-row.result in
+    let same : p ≡ g = ap (λ (v : ScratchView). v.problem) c.scratch.view_is ∙ c.requires.scratch.problem in
+    let had : old ≡ Some c.in-Some.witness = sym c.take.ensures.value ∙ c.in-Some.is in
+    let kept : IsKept row = c.is_kept.ensures.0 c.if-not-is_kept.false in
+    let is = row_is_recalled g p old c.in-Some.witness k1.view c.args.id t row same c.scratch.invariant.1 had kept c.row-row.ensures c.recall.ensures.heard in
+    narrow_keeps b k c.load_lower-lower.new.pass k0 k1 c.least_of_kept-least.new.pass c.args.id c.load_lower-lower.result c.load_upper-upper.result t row c.least_of_kept-least.result
+    c.requires.here c.requires.known c.load_lower-lower.ensures.seen c.load_upper-upper.ensures.seen c.recall.ensures.keeps c.recall.ensures.loads c.recall.ensures.state is
+    c.least_of_kept-least.ensures.problem c.least_of_kept-least.ensures.keeps c.least_of_kept-least.ensures.least
+    c.narrow_from.new.pass c.narrow_from.ensures.one c.narrow_from.ensures.keeps c.narrow_from.ensures.raised c.narrow_from.ensures.sunk
+
+pub returns-clause-narrows : goal.returns-clause-narrows
+returns-clause-narrows c =
+    let b = c.args.words.now in let g = b.problem in let k = c.args.pass.now in let k0 = c.load_upper-upper.new.pass in let k1 = c.recall.new.pass in
+    let p = c.scratch.inside.index in let old = c.scratch.inside.witness in let t = c.scratch.inside.kept in let row = c.row-row.result in
+    let same : p ≡ g = ap (λ (v : ScratchView). v.problem) c.scratch.view_is ∙ c.requires.scratch.problem in
+    let had : old ≡ Some c.in-Some.witness = sym c.take.ensures.value ∙ c.in-Some.is in
+    let kept : IsKept row = c.is_kept.ensures.0 c.if-not-is_kept.false in
+    let is = row_is_recalled g p old c.in-Some.witness k1.view c.args.id t row same c.scratch.invariant.1 had kept c.row-row.ensures c.recall.ensures.heard in
+    narrow_narrows b k c.load_lower-lower.new.pass k0 k1 c.least_of_kept-least.new.pass c.args.id c.load_lower-lower.result c.load_upper-upper.result t row c.least_of_kept-least.result
+    c.requires.here c.requires.known c.load_lower-lower.ensures.seen c.load_upper-upper.ensures.seen c.recall.ensures.keeps c.recall.ensures.loads c.recall.ensures.state is
+    c.least_of_kept-least.ensures.problem c.least_of_kept-least.ensures.keeps c.least_of_kept-least.ensures.least
+    c.narrow_from.new.pass c.narrow_from.ensures.one c.narrow_from.ensures.keeps c.narrow_from.ensures.raised c.narrow_from.ensures.sunk

@@ -1,0 +1,174 @@
+//! The backup of an id whose answer is not asked for.
+
+ghost use Rattle.std.specs.Prelude.{◌≡◌, ◌<◌, ◌≤◌, ◌/◌, length};
+ghost use Rattle.ground_model.specs.declared.limits.TheConstants.{MOST_PENALTY};
+ghost use Rattle.ground_model.specs.Packed.{State};
+ghost use Rattle.ground_model.specs.Invariant.{IsAction, IsGroundProblem};
+ghost use Rattle.bound_core.specs.Numbers.{quit_word};
+ghost use Rattle.word_view.specs.Views.{knows, noted_lower, noted_upper, CanRaise, CanSink};
+ghost use Rattle.word_rule.specs.Told.{HasOneEach};
+ghost use Rattle.word_table.specs.Seen.{IsOf};
+ghost use Rattle.bellman_backup.specs.Scratches.{IsScratchOf};
+ghost use Rattle.bellman_backup.specs.Backups.{Keeps, Narrows};
+ghost use Rattle.bellman_backup.specs.Kept.{IsKeptAction, AreKept};
+ghost use Rattle.bellman_backup.specs.Leasts.{HasSummed, HasLeast, CanNarrow};
+
+use crate::backing::backup;
+use crate::least::Least;
+use crate::mean::Mean;
+use crate::outcomes::read_id;
+use crate::recalling::recall;
+use crate::scratch::Scratch;
+use crate::sums::Sums;
+use bound_words::{raise, sink_upper};
+use fixed_round::UpperWord;
+use ground_model::GroundAction;
+use kept_transitions::{Kept, KeptAction, KeptRow};
+use word_table::{Pass, Words, load_count, load_lower, load_upper};
+
+/// The sums over the choices of an open action, read by the ids that are kept of it.
+fn sum_kept(
+    words: &Words<'_>,
+    pass: &mut Pass,
+    action: &GroundAction,
+    kept: &KeptAction,
+    ids: &[u32],
+) -> Sums
+    requires here { IsOf words.now pass.old }
+    requires action { IsAction (length words.now.problem.atoms) action.now }
+    requires penalty { words.now.problem.penalty ≤ MOST_PENALTY }
+    requires kept { (s : State) × IsKeptAction pass.old.view s ids.now action.now kept.now }
+    ensures keeps { Keeps words.now pass.old pass.new }
+    ensures summed { let g = words.now.problem
+        in HasSummed g pass.old.view pass.new.view ids.now action.now kept.now result }
+{
+    let cost = u128::from(kept.cost);
+    let mut sums = Sums {
+        lower: cost,
+        upper: cost,
+    };
+    let choices = action.choices.as_slice();
+    for index in 0..choices.len() {
+        let weight = choices[index].weight;
+        let id = ids[kept.first as usize + index];
+        let step = read_id(words, pass, weight, id);
+        sums = sums.with(0, &step);
+    }
+    sums
+}
+
+/// The least numbers over the open actions of a state, read by what is kept of them, and over giving up. The
+/// least word is at most the first one.
+fn least_of_kept(
+    words: &Words<'_>,
+    pass: &mut Pass,
+    row: KeptRow,
+    kept: &Kept,
+    first: UpperWord,
+) -> Least
+    requires here { IsOf words.now pass.old }
+    requires kept { (s : State) × AreKept pass.old.view s words.now.problem kept.now row }
+    requires first { first ≤ quit_word words.now.problem.penalty }
+    ensures problem { IsGroundProblem words.now.problem }
+    ensures keeps { Keeps words.now pass.old pass.new }
+    ensures least { let g = words.now.problem
+        in HasLeast g pass.old.view pass.new.view kept.now row first result }
+{
+    let problem = words.problem();
+    let penalty = problem.penalty();
+    let mut least = Least {
+        mean: Mean {
+            sum: penalty,
+            den: 1,
+        },
+        word: first,
+    };
+    for index in 0..row.past - row.first {
+        let own = kept.actions()[(row.first + index) as usize];
+        let action = &problem.actions()[own.code as usize];
+        let sums = sum_kept(words, pass, action, &own, kept.ids());
+        least = least.with(sums, action.den, own.code);
+    }
+    least
+}
+
+/// Raises the lower number of an id, where the one that the pass has noted is less.
+fn raise_from(words: &Words<'_>, pass: &mut Pass, id: u32, lower: u64, mean: Mean)
+    requires here { IsOf words.now pass.old }
+    requires den { 0 < mean.den }
+    requires noted { lower ≤ noted_lower pass.old.view id }
+    requires allowed { CanRaise pass.old.view id (mean.sum / mean.den) }
+    ensures keeps { Keeps words.now pass.old pass.new }
+    ensures one { HasOneEach pass.old.view → HasOneEach pass.new.view }
+    ensures raised { mean.sum / mean.den ≤ noted_lower pass.new.view id }
+{
+    if !mean.exceeds(lower) {
+        return;
+    }
+    raise(words, pass, id, mean.floor());
+}
+
+/// Sinks the upper word of an id, where the one that the pass has noted is greater.
+fn sink_from(words: &Words<'_>, pass: &mut Pass, id: u32, upper: UpperWord, word: UpperWord)
+    requires here { IsOf words.now pass.old }
+    requires noted { noted_upper pass.old.view id ≤ upper }
+    requires allowed { word < upper → CanSink pass.old.view id word }
+    ensures keeps { Keeps words.now pass.old pass.new }
+    ensures sunk { noted_upper pass.new.view id ≤ word }
+{
+    if !word.is_below(upper) {
+        return;
+    }
+    sink_upper(words, pass, id, word);
+}
+
+/// Narrows the numbers of an id to the least that was read, where the ones that the pass has noted are wider.
+fn narrow_from(
+    words: &Words<'_>,
+    pass: &mut Pass,
+    id: u32,
+    lower: u64,
+    upper: UpperWord,
+    least: Least,
+)
+    requires here { IsOf words.now pass.old }
+    requires can { CanNarrow words.now pass.old id lower upper least }
+    ensures one { HasOneEach pass.old.view }
+    ensures keeps { Keeps words.now pass.old pass.new }
+    ensures raised { least.mean.sum / least.mean.den ≤ noted_lower pass.new.view id }
+    ensures sunk { noted_upper pass.new.view id ≤ least.word }
+{
+    // A look at the table tells that ids of one state are one id, so that what was seen of a state is what was
+    // noted of its id.
+    load_count(words, pass);
+    raise_from(words, pass, id, lower, least.mean);
+    sink_from(words, pass, id, upper, least.word);
+}
+
+/// Backs up an id as `backup` does, and answers nothing. So where the transitions of its state are kept, no
+/// choice is written down, and its numbers are changed only where they become narrower.
+pub fn narrow(words: &Words<'_>, pass: &mut Pass, id: u32, scratch: &mut Scratch<'_>)
+    requires here { IsOf words.now pass.old }
+    requires known { knows pass.old.view id }
+    requires right { 0 < pass.old.view.rights }
+    requires scratch { IsScratchOf words.now scratch.old }
+    ensures keeps { Keeps words.now pass.old pass.new }
+    ensures scratch { IsScratchOf words.now scratch.new }
+    ensures problem { scratch.new.problem ≡ scratch.old.problem }
+    ensures narrows { Narrows words.now.problem pass.old.view pass.new.view id }
+{
+    let row = scratch.kept.row(id);
+    if !row.is_kept() {
+        backup(words, pass, id, scratch);
+        return;
+    }
+    let lower = load_lower(words, pass, id);
+    let upper = load_upper(words, pass, id);
+    let Some(mut witness) = scratch.witness.take() else {
+        unreachable!()
+    };
+    recall(words, pass, id, &mut witness);
+    scratch.witness = Some(witness);
+    let least = least_of_kept(words, pass, row, &scratch.kept, upper);
+    narrow_from(words, pass, id, lower, upper, least);
+}
