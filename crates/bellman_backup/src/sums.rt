@@ -1,6 +1,6 @@
 //! Sums over the choices of an action.
 
-ghost use Rattle.std.specs.Prelude.{◌≡◌, ◌<◌, ◌≤◌, ◌+◌, ◌*◌, ◌/◌, ◌^◌, min};
+ghost use Rattle.std.specs.Prelude.{◌≡◌, ◌<◌, ◌≤◌, ◌+◌, ◌*◌, ◌/◌, ◌^◌, ◌↔◌, min, IsTrue};
 ghost use Rattle.std.specs.Int.{div_ceil};
 ghost use Rattle.fixed_round.specs.Words.{word_of, value_of};
 ghost use Rattle.bellman_backup.specs.Totals.{IsSmallStep};
@@ -70,15 +70,28 @@ pub(crate) fn lesser(bound: u64, sum: u128, den: u64) -> u64
     }
 }
 
+/// Whether the word of an action's mean, rounded up, is below a bound. Nothing is divided.
+fn is_word_below(bound: UpperWord, sum: u128, den: u64, code: u16) -> bool
+    requires { 0 < den }
+    ensures { IsTrue result ↔ word_of (div_ceil sum den) code < bound }
+{
+    let den = u128::from(den);
+    let most = u128::from(bound.value()) * den;
+    if code < bound.code() {
+        sum <= most
+    } else {
+        den <= most && sum <= most - den
+    }
+}
+
 /// The smaller of a bound and the word of an action's mean, rounded up. It is compared before it is divided.
 pub(crate) fn lesser_word(bound: UpperWord, sum: u128, den: u64, code: u16) -> UpperWord
     requires den { 0 < den }
     requires bound { value_of bound ≤ 11 * 10 ^ 13 }
     ensures { result ≡ min (word_of (div_ceil sum den) code) bound }
 {
-    if sum <= u128::from(bound.value()) * u128::from(den) {
-        let word = UpperWord::pack(quotient_up(sum, den) as u64, code);
-        if word.is_below(bound) { word } else { bound }
+    if is_word_below(bound, sum, den, code) {
+        UpperWord::pack(quotient_up(sum, den) as u64, code)
     } else {
         bound
     }

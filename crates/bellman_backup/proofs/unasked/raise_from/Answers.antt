@@ -12,7 +12,7 @@ pub returns-then-not-exceeds-clause-keeps : goal.returns-then-not-exceeds-clause
 returns-then-not-exceeds-clause-keeps c = keeps_all c.args.words.now c.args.pass.now c.requires.here
 
 pub returns-clause-keeps : goal.returns-clause-keeps
-returns-clause-keeps c = keeps_raised c.args.words.now c.args.pass.now c.raise.new.pass c.args.id c.floor.result c.requires.here c.raise.ensures.seen
+returns-clause-keeps c = keeps_raised c.args.words.now c.args.pass.now c.raise.new.pass c.args.id _ c.requires.here c.raise.ensures.seen
 
 pub returns-clause-one : goal.returns-clause-one
 returns-clause-one c = λ one. subst (λ (x : Knowledge). HasOneEach x.view) (sym c.raise.ensures.seen) one

@@ -5,4 +5,4 @@ pub returns-then-not-is_below-clause-keeps : goal.returns-then-not-is_below-clau
 returns-then-not-is_below-clause-keeps c = keeps_all c.args.words.now c.args.pass.now c.requires.here
 
 pub returns-clause-keeps : goal.returns-clause-keeps
-returns-clause-keeps c = keeps_sunk c.args.words.now c.args.pass.now c.sink_upper.new.pass c.args.id c.args.word c.requires.here c.sink_upper.ensures.seen
+returns-clause-keeps c = keeps_sunk c.args.words.now c.args.pass.now c.sink_upper.new.pass c.args.id _ c.requires.here c.sink_upper.ensures.seen
