@@ -6,7 +6,7 @@ ghost use Rattle.word_table.specs.Seen.{IsOf};
 ghost use Rattle.bellman_backup.specs.Scratches.{IsScratchOf};
 ghost use Rattle.trial_workers.specs.Workers.{Stays, HasSwept};
 
-use bellman_backup::{Scratch, backup};
+use bellman_backup::{Scratch, narrow};
 use word_table::{Pass, Words};
 
 /// Backs up the ids from `first` up to below `past`, in falling order.
@@ -28,6 +28,6 @@ pub(crate) fn sweep(
     let mut id = past;
     while id > first {
         id -= 1;
-        backup(words, pass, id, scratch);
+        narrow(words, pass, id, scratch);
     }
 }

@@ -1,12 +1,14 @@
 //! Backups one by one, against numbers that were computed by hand.
 
 ghost use Rattle.std.specs.Prelude.{◌<◌};
+ghost use Rattle.word_view.specs.Views.{knows};
 ghost use Rattle.word_table.specs.Seen.{IsOf};
+ghost use Rattle.bellman_backup.specs.Backups.{Keeps};
 ghost use Rattle.bellman_backup.specs.Scratches.{IsScratchOf};
 
 use super::problem_of;
 use super::texts::{COIN, HAUL, THIRD, TIRE};
-use bellman_backup::{Scratch, backup};
+use bellman_backup::{Scratch, backup, narrow};
 use bound_solver::{Opening, Sizes, open};
 use bound_words::{Interval, interval};
 use brtdp_trial::{AT_GOAL, Backed, GIVE_UP};
@@ -43,13 +45,37 @@ fn at(atoms: u64, answer: (u16, u64, u32), interval: (u64, u64, u16)) -> Row {
     }
 }
 
-/// Backs up a state, and answers the backup with the interval afterwards. None where the state has no id.
+/// Backs up an id, and answers the backup where the answer is asked for.
+fn update(
+    words: &Words<'_>,
+    pass: &mut Pass,
+    id: u32,
+    scratch: &mut Scratch<'_>,
+    asked: bool,
+) -> Option<Backed>
+    requires here { IsOf words.now pass.old }
+    requires known { knows pass.old.view id }
+    requires right { 0 < pass.old.view.rights }
+    requires scratch { IsScratchOf words.now scratch.old }
+    ensures keeps { Keeps words.now pass.old pass.new }
+    ensures scratch { IsScratchOf words.now scratch.new }
+{
+    if asked {
+        return Some(backup(words, pass, id, scratch));
+    }
+    narrow(words, pass, id, scratch);
+    None
+}
+
+/// Backs up a state, and answers the backup, where it is asked for, with the interval afterwards. None where the
+/// state has no id.
 fn back_up(
     words: &Words<'_>,
     pass: &mut Pass,
     scratch: &mut Scratch<'_>,
     state: &State,
-) -> Option<(Backed, Interval)>
+    asked: bool,
+) -> Option<(Option<Backed>, Interval)>
     requires here { IsOf words.now pass.old }
     requires right { 0 < pass.old.view.rights }
     requires scratch { IsScratchOf words.now scratch.old }
@@ -61,7 +87,7 @@ fn back_up(
         return None;
     }
     let id = find(words, pass, state)?;
-    let backed = backup(words, pass, id, scratch);
+    let backed = update(words, pass, id, scratch, asked);
     let found = interval(words, pass, id);
     Some((backed, found))
 }
@@ -74,6 +100,7 @@ fn check_backups<R: Abort>(
     pass: &mut Pass,
     scratch: &mut Scratch<'_>,
     rows: &[Row],
+    asked: bool,
 ) -> Result<(), AllocError>
     requires here { IsOf words.now pass.old }
     requires right { 0 < pass.old.view.rights }
@@ -82,18 +109,20 @@ fn check_backups<R: Abort>(
     for row in rows {
         let atoms = Vec::from_array(alloc, [row.atoms])?;
         let state = State::from_words(List::from_vec(atoms));
-        let found = back_up(words, pass, scratch, &state);
-        assert_eq!(rt; found, Some((row.backed, row.interval)));
+        let found = back_up(words, pass, scratch, &state, asked);
+        let backed = if asked { Some(row.backed) } else { None };
+        assert_eq!(rt; found, Some((backed, row.interval)));
     }
     Ok(())
 }
 
 /// Makes the backups in turn, over a table in which all states of the problem have ids.
-fn check_rows<R: Abort>(
+fn check_table<R: Abort>(
     rt: &R,
     alloc: Global,
     problem: &GroundProblem,
     rows: &[Row],
+    asked: bool,
 ) -> Result<(), AllocError> {
     let sizes = Sizes {
         workers: 1,
@@ -107,7 +136,18 @@ fn check_rows<R: Abort>(
     } = open(alloc, problem, &sizes)?;
     let mut pass = pass;
     let mut scratch = Scratch::make(alloc, problem, 66, 64, 64)?;
-    check_backups(rt, alloc, &words, &mut pass, &mut scratch, rows)
+    check_backups(rt, alloc, &words, &mut pass, &mut scratch, rows, asked)
+}
+
+/// Makes the backups over two tables: the intervals afterwards are the same where no answer is asked for.
+fn check_rows<R: Abort>(
+    rt: &R,
+    alloc: Global,
+    problem: &GroundProblem,
+    rows: &[Row],
+) -> Result<(), AllocError> {
+    check_table(rt, alloc, problem, rows, true)?;
+    check_table(rt, alloc, problem, rows, false)
 }
 
 /// The lower number's distance from 2 units is 1 unit behind the first backup, the upper one's 4, and each backup halves
