@@ -1,9 +1,10 @@
 -- What the first fault of a row says of it.
-use Rattle.std.proofs.Common.{◌≡◌, ℕ, ◌+◌, ◌≤◌, Bool, true, Option, Some, None, length, refl, sym, subst, ◌∙◌, arith}
+use Rattle.std.proofs.Common.{◌≡◌, ℕ, ◌+◌, ◌≤◌, Bool, true, false, Option, Some, None, length, refl, sym, ap, subst, ◌∙◌, arith}
+use Rattle.std.specs.Prelude.{Contains}
 use Rattle.std.specs.List.{slice_get}
-use Rattle.std.proofs.lemmas.Option.{same_Some}
+use Rattle.std.proofs.lemmas.Option.{same_Some, slice_get_within, get_or_from_slice_get}
 use Rattle.certificate.specs.Rows.{Row}
-use Rattle.certificate.specs.Content.{Content}
+use Rattle.certificate.specs.Content.{Content, IsCertificate}
 use Rattle.ground_model.specs.Packed.{State, words_for}
 use Rattle.ground_model.specs.Ground.{Ground}
 use Rattle.ground_model.specs.Steps.{ground_process}
@@ -12,12 +13,13 @@ use Rattle.row_check.specs.declared.fault.Fault.{Fault}
 use Rattle.row_check.specs.declared.fault.Fault.TheVariants as fault
 use Rattle.row_check.specs.declared.claim.Claim.{Claim}
 use Rattle.row_check.specs.declared.row.Scratch.{Scratch}
-use Rattle.row_check.specs.Faults.{IsFirstFault, HasRoom}
+use Rattle.row_check.specs.Faults.{IsFirstFault, IsReadAt, HasRoom}
 use Rattle.certificate_check.specs.declared.rows.Room.{Room}
 use Rattle.certificate_check.specs.Pass.{HasRoomFor}
 use Rattle.certificate_check.specs.declared.verdict.Verdict.{Verdict}
-use Rattle.certificate_check.specs.Claims.{knows, row_state, act_of}
+use Rattle.certificate_check.specs.Claims.{knows, row_state, act_of, low_in, high_in}
 use Rattle.certificate_check.specs.Verdicts.{IsRightIn, UpperFollowsIn, verdict_of, IsRowVerdict}
+use Rattle.certificate_check.proofs.Sound.{low_read, high_read}
 
 abbrev pub verdict_from : ℕ → Option Fault → Option Verdict
 verdict_from k None = None
@@ -44,6 +46,19 @@ row_told g c low high r k a is known (Some fault.Upper) told = (
   told.1,
   (λ follows. told.2 (subst (UpperFollowsIn g c low high (row_state g c r) r.upper) is follows)),
 )
+
+-- the row's state is read as the row says
+pub row_is_read : (i g : Ground) (c : Content) → IsCertificate c → (r : Row) (k : ℕ) (a : Act) (s : State) → i ≡ g
+    → slice_get c.rows k ≡ Some r → knows g c r ≡ true → s ≡ row_state g c r
+    → IsReadAt i (low_in g c) (high_in g c) s (record { lower = r.lower; upper = r.upper; act = a })
+row_is_read i g c is r k a s problem at known state =
+    let inside : Contains c.rows r = (k, slice_get_within c.rows k r at, get_or_from_slice_get c.rows k r r at) in
+    record {
+      lower = λ _. sym (ap (low_in g c) state ∙ low_read g c is r inside known);
+      upper = λ off.
+          let off_row : (ground_process g).goal (row_state g c r) ≡ false = sym (λ j. (ground_process (problem j)).goal (state j)) ∙ off in
+          sym (ap (high_in g c) state ∙ high_read g c is r inside known off_row);
+    }
 
 -- the same of the row in its place, by a state that is written
 pub row_answer : (i g : Ground) (c : Content) (low high : State → ℕ) (mine r : Row) (k : ℕ) (a : Act) (s : State) (known : Bool) (found : Option Fault)

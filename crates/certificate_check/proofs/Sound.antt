@@ -153,13 +153,13 @@ module _ (g : Ground) (c : Content) (is : IsCertificate c) where
     read = row_is_read (ground_process g) same_state states_exact (rows_of g c c.rows) (states_differ g c is) (row_of g c r)
         (kept_row c.rows r inside known)
 
-    low_read : low_in g c (row_state g c r) ≡ r.lower
+    pub low_read : low_in g c (row_state g c r) ≡ r.lower
     low_read = ap (λ (o : Option (readings.Row State ℕ)). elim o [ None ↦ 0 | Some row ↦ row.lower ]) read
 
     act_read : act same_state (rows_of g c c.rows) (row_state g c r) ≡ action_of (taken (act_of g c r.act))
     act_read = ap (λ (o : Option (readings.Row State ℕ)). elim o [ None ↦ None | Some row ↦ action_of row.act ]) read
 
-    high_read : (ground_process g).goal (row_state g c r) ≡ false → high_in g c (row_state g c r) ≡ r.upper
+    pub high_read : (ground_process g).goal (row_state g c r) ≡ false → high_in g c (row_state g c r) ≡ r.upper
     high_read off =
         ap (λ b. cond b 0 (elim (row_at same_state (rows_of g c c.rows) (row_state g c r)) [ None ↦ g.penalty | Some row ↦ row.upper ])) off
         ∙ ap (λ (o : Option (readings.Row State ℕ)). elim o [ None ↦ g.penalty | Some row ↦ row.upper ]) read

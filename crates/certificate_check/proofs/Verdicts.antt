@@ -77,16 +77,13 @@ module _ (x t : Claimed) (g : Ground) (q : Content) (same : t ≡ x) (problem : 
   claimed : x ≡ record { problem = g; certificate = q }
   claimed = λ j. record { problem = problem j; certificate = certificate j }
 
-  pub told_rows : (o : Option Verdict)
-      → AreRowsVerdict x.problem x.certificate (low_in t.problem t.certificate) (high_in t.problem t.certificate) o
-      → AreRowsVerdict g q (low_in g q) (high_in g q) o
-  told_rows o told =
-      subst (λ (y : Claimed). AreRowsVerdict y.problem y.certificate (low_in y.problem y.certificate) (high_in y.problem y.certificate) o) claimed
-      (subst (λ (y : Claimed). AreRowsVerdict x.problem x.certificate (low_in y.problem y.certificate) (high_in y.problem y.certificate) o) same told)
+  abbrev TellsOf : Option Verdict → Claimed → Type 0
+  TellsOf o y = AreRowsVerdict y.problem y.certificate (low_in y.problem y.certificate) (high_in y.problem y.certificate) o
 
-  pub told_sound : (o : Option Verdict) → o ≡ None
-      → AreRowsVerdict x.problem x.certificate (low_in t.problem t.certificate) (high_in t.problem t.certificate) o
-      → AreSound g q (low_in g q) (high_in g q)
+  pub told_rows : (o : Option Verdict) → TellsOf o t → AreRowsVerdict g q (low_in g q) (high_in g q) o
+  told_rows o told = subst (TellsOf o) (same ∙ claimed) told
+
+  pub told_sound : (o : Option Verdict) → o ≡ None → TellsOf o t → AreSound g q (low_in g q) (high_in g q)
   told_sound o none told = subst (AreRowsVerdict g q (low_in g q) (high_in g q)) none (told_rows o told)
 
   pub told_interval : (lower upper : ℕ) (r : Bool) → lower ≡ q.lower → upper ≡ q.upper

@@ -34,7 +34,7 @@ pub fn check<'c>(
     let table = RowTable::new(alloc, &rows)?;
     let index = OpenActions::new(alloc, problem)?;
     let mut room = Room::new(alloc, problem)?;
-    if let Some(verdict) = rows_verdict(&index, &table, &rows, &mut room) {
+    if let Some(verdict) = rows_verdict(&index, &table, &mut room) {
         return Ok(verdict);
     }
     if !is_interval(problem, &table, certificate.lower(), certificate.upper()) {

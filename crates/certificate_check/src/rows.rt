@@ -4,12 +4,12 @@ ghost use Rattle.std.specs.Prelude.{◌≡◌, ◌<◌, length, IfOk};
 ghost use Rattle.certificate_check.specs.Pass.{HasRoomFor, TellsOfRow, TellsOfRows};
 ghost use Rattle.certificate_check.specs.Verdicts.{verdict_of};
 
-use crate::ground_rows::GroundRows;
 use crate::packing::state_width;
+use crate::row_table::RowTable;
 use crate::verdict::Verdict;
 use ground_model::{GroundProblem, List, State};
 use open_actions::{OpenActions, OpenCodes};
-use row_check::{Claim, Fault, Reading, Scratch, row_fault};
+use row_check::{Claim, Fault, Scratch, row_fault};
 use std::alloc::{AllocError, Global};
 
 /// Room for the pass: the state of a row, and what its test needs.
@@ -65,19 +65,19 @@ fn verdict_of(fault: Fault, row: u32) -> Verdict
 }
 
 /// What is wrong with the row in this place, if anything.
-fn row_verdict<R: Reading>(
+fn row_verdict(
     index: &OpenActions<'_>,
-    reading: &R,
-    rows: &GroundRows<'_>,
+    table: &RowTable<'_>,
     place: usize,
     room: &mut Room,
 ) -> Option<Verdict>
-    requires problem { index.now ≡ rows.now.problem }
-    requires place { place < length rows.now.certificate.rows }
-    requires room { HasRoomFor rows.now.problem room.old }
-    ensures verdict { TellsOfRow rows.now (R.low reading.now) (R.high reading.now) place result }
-    ensures room { HasRoomFor rows.now.problem room.new }
+    requires problem { index.now ≡ table.now.problem }
+    requires place { place < length table.now.certificate.rows }
+    requires room { HasRoomFor table.now.problem room.old }
+    ensures verdict { TellsOfRow table.now place result }
+    ensures room { HasRoomFor table.now.problem room.new }
 {
+    let rows = table.rows();
     let claimed = rows.certificate().rows().row(place);
     let row = place as u32 + 1;
     if !rows.knows(place) {
@@ -92,23 +92,22 @@ fn row_verdict<R: Reading>(
         upper: claimed.upper,
         act,
     };
-    let fault = row_fault(index, reading, &room.state, claim, &mut room.scratch)?;
+    let fault = row_fault(index, table, &room.state, claim, &mut room.scratch)?;
     Some(verdict_of(fault, row))
 }
 
 /// What is wrong with the first row that is not right, if there is one.
-pub(crate) fn rows_verdict<R: Reading>(
+pub(crate) fn rows_verdict(
     index: &OpenActions<'_>,
-    reading: &R,
-    rows: &GroundRows<'_>,
+    table: &RowTable<'_>,
     room: &mut Room,
 ) -> Option<Verdict>
-    requires problem { index.now ≡ rows.now.problem }
-    requires room { HasRoomFor rows.now.problem room.old }
-    ensures { TellsOfRows rows.now (R.low reading.now) (R.high reading.now) result }
+    requires problem { index.now ≡ table.now.problem }
+    requires room { HasRoomFor table.now.problem room.old }
+    ensures { TellsOfRows table.now result }
 {
-    for place in 0..rows.certificate().rows().len() {
-        if let Some(verdict) = row_verdict(index, reading, rows, place, room) {
+    for place in 0..table.rows().certificate().rows().len() {
+        if let Some(verdict) = row_verdict(index, table, place, room) {
             return Some(verdict);
         }
     }

@@ -1,7 +1,7 @@
 -- What a pass over the open actions says of a row.
 --     HoldAmong g low high s claim codes c
 --                          the conditions, as far as the open actions with these codes say
-use Rattle.std.proofs.Common.{◌≡◌, ℕ, ◌+◌, ◌*◌, ◌<◌, ◌≤◌, Bool, true, false, List, [], ◌∷◌, ◌++◌, length, Some, refl, sym, subst, inl, inr, ◌∙◌, true≢false, get_or}
+use Rattle.std.proofs.Common.{◌≡◌, ℕ, ◌*◌, ◌<◌, ◌≤◌, Bool, true, false, List, [], ◌∷◌, ◌++◌, length, Some, refl, sym, subst, inl, inr, ◌∙◌, true≢false, get_or}
 use Rattle.std.specs.Prelude.{◌↔◌, ◌&&◌, Contains, IsTrue, nat_le}
 use Rattle.std.specs.List.{slice_get}
 use Rattle.std.proofs.lemmas.Bool.{le-leb, leb-true, and_parts, and_from}

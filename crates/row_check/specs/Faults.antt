@@ -5,6 +5,8 @@
 --     IsIntervalOf g low high lower upper
 --                                the interval of the initial states
 --     start_sum g v              the sum of the weights of the initial states times their values
+--     IsReadAt g low high s claim
+--                                off goals the state is read as the claim says
 --     HasRoom g s scratch        the scratch has a state as long as s, and room for all actions
 --     AreConditions p low high s claim c
 --                                which of the conditions hold: the act, the lower value and, of an act that is right, the upper value
@@ -74,6 +76,10 @@ start_sum g v = at_starts v (ground_starts g)
 -- of a ground problem
 abbrev pub IsIntervalOf : Ground → (State → ℕ) → (State → ℕ) → ℕ → ℕ → Type 0
 IsIntervalOf g low high lower upper = IsInterval low high (ground_starts g) g.start_den lower upper
+
+pub record IsReadAt (g : Ground) (low high : State → ℕ) (s : State) (claim : Claim) : Type 0 where
+  pub lower : (ground_process g).goal s ≡ false → claim.lower ≡ low s
+  pub upper : (ground_process g).goal s ≡ false → claim.upper ≡ high s
 
 pub record HasRoom (g : Ground) (s : State) (scratch : Scratch) : Type 0 where
   pub words : 64 * length s < 2 ^ 32

@@ -2,9 +2,10 @@
 
 ghost use Rattle.std.specs.Prelude.{◌≡◌, ◌*◌, ◌<◌, ◌≤◌, ◌^◌, length, false};
 ghost use Rattle.ground_model.specs.Steps.{ground_process};
-ghost use Rattle.row_check.specs.Faults.{HaveConditions, IsFault, HasRoom};
+ghost use Rattle.row_check.specs.Faults.{HaveConditions, IsFault, IsReadAt, HasRoom};
 
 use crate::act::Act;
+use crate::bounds::Bounds;
 use crate::claim::Claim;
 use crate::conditions::Conditions;
 use crate::fault::Fault;
@@ -33,6 +34,8 @@ fn conditions_off_goals<R: Reading>(
     next: &mut State,
 ) -> Conditions
     requires off_goals { (ground_process problem.now).goal state.now ≡ false }
+    requires own_lower { claim.lower ≡ R.low reading.now state.now }
+    requires own_upper { claim.upper ≡ R.high reading.now state.now }
     requires codes { codes.now ≡ (ground_process problem.now).choices state.now }
     requires fits { length next.old ≡ length state.now }
     ensures conditions { HaveConditions problem.now (R.low reading.now) (R.high reading.now)
@@ -44,10 +47,14 @@ fn conditions_off_goals<R: Reading>(
         lower: claim.lower <= problem.penalty(),
         upper: claim.upper >= problem.penalty(),
     };
+    let own = Bounds {
+        lower: claim.lower,
+        upper: claim.upper,
+    };
     for code in codes {
         let action = &problem.actions()[*code as usize];
         let den = u128::from(action.den);
-        let sums = action_sums(action, reading, state, next, problem.atoms().len());
+        let sums = action_sums(action, reading, state, own, next, problem.atoms().len());
         conditions.lower &= u128::from(claim.lower) * den <= sums.lower;
         if claim.act.takes(*code) {
             conditions.act = true;
@@ -65,6 +72,7 @@ fn conditions_at<R: Reading>(
     claim: Claim,
     scratch: &mut Scratch,
 ) -> Conditions
+    requires read { IsReadAt index.now (R.low reading.now) (R.high reading.now) state.now claim }
     requires room { HasRoom index.now state.now scratch.old }
     ensures conditions { HaveConditions index.now (R.low reading.now) (R.high reading.now)
         state.now claim result }
@@ -89,7 +97,8 @@ fn conditions_at<R: Reading>(
     )
 }
 
-/// The first of the conditions on a row that fails, in the order of the faults.
+/// The first of the conditions on a row that fails, in the order of the faults. A state that is no goal
+/// has to be read as its row claims, so that a step back to it needs no reading.
 pub fn row_fault<R: Reading>(
     index: &OpenActions<'_>,
     reading: &R,
@@ -97,6 +106,7 @@ pub fn row_fault<R: Reading>(
     claim: Claim,
     scratch: &mut Scratch,
 ) -> Option<Fault>
+    requires read { IsReadAt index.now (R.low reading.now) (R.high reading.now) state.now claim }
     requires room { HasRoom index.now state.now scratch.old }
     ensures fault { IsFault index.now (R.low reading.now) (R.high reading.now)
         state.now claim result }

@@ -6,6 +6,7 @@ ghost use Rattle.ground_model.specs.Ground.{Ground};
 ghost use Rattle.ground_model.specs.Steps.{own_action_value};
 ghost use Rattle.row_check.specs.Faults.{start_sum};
 
+use crate::bounds::Bounds;
 use crate::reading::Reading;
 use ground_model::{GroundAction, GroundProblem, State};
 use ground_step::apply;
@@ -17,16 +18,33 @@ pub(crate) struct Sums {
     pub upper: u128,
 }
 
+/// The values of a next state: those of the state before, which are at hand, where a step does not leave it.
+fn read_next<R: Reading>(reading: &R, state: &State, own: Bounds, next: &State) -> Bounds
+    requires own_lower { own.lower ≡ R.low reading.now state.now }
+    requires own_upper { own.upper ≡ R.high reading.now state.now }
+    ensures lower { result.lower ≡ R.low reading.now next.now }
+    ensures upper { result.upper ≡ R.high reading.now next.now }
+{
+    if next == state {
+        own
+    } else {
+        reading.read(next)
+    }
+}
+
 /// The expected costs of taking an action in a state, with readings of the next states, times the action's
-/// denominator. The next states are written into `next`.
+/// denominator. The state's own values are `own`, and the next states are written into `next`.
 pub(crate) fn action_sums<R: Reading>(
     action: &GroundAction,
     reading: &R,
     state: &State,
+    own: Bounds,
     next: &mut State,
     atoms: usize,
 ) -> Sums
     requires action { IsAction atoms action.now }
+    requires own_lower { own.lower ≡ R.low reading.now state.now }
+    requires own_upper { own.upper ≡ R.high reading.now state.now }
     requires fits { length next.old ≡ length state.now }
     ensures lower { result.lower ≡ own_action_value (R.low reading.now) action.now state.now }
     ensures upper { result.upper ≡ own_action_value (R.high reading.now) action.now state.now }
@@ -37,7 +55,7 @@ pub(crate) fn action_sums<R: Reading>(
     for choice in action.choices.as_slice() {
         let weight = u128::from(choice.weight);
         let cost = u128::from(apply(choice, state, next));
-        let bounds = reading.read(next);
+        let bounds = read_next(reading, state, own, next);
         lower += weight * (cost + u128::from(bounds.lower));
         upper += weight * (cost + u128::from(bounds.upper));
     }

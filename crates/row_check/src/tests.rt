@@ -1,4 +1,5 @@
-ghost use Rattle.std.specs.Prelude.{◌≡◌, List, [], IfOk};
+ghost use Rattle.std.specs.Prelude.{◌≡◌, List, [], IfOk, cond};
+ghost use Rattle.ground_model.specs.Packed.{has_bit};
 ghost use Rattle.ground_model.specs.Coin as example;
 
 use super::*;
@@ -9,16 +10,19 @@ use open_actions::{OpenActions, OpenCodes};
 use std::alloc::{AllocError, Global};
 use std::test::Fail;
 
-/// The same values for all states.
+/// The values of the states in which atom 0 is false; where it is true nothing more is paid.
 #[derive(Drop)]
-struct Same(Bounds);
+struct Off(Bounds);
 
-impl Reading for Same {
-    ghost low = { λ same state. same.0.lower };
+impl Reading for Off {
+    ghost low = { λ off state. cond (has_bit state 0) 0 off.0.lower };
 
-    ghost high = { λ same state. same.0.upper };
+    ghost high = { λ off state. cond (has_bit state 0) 0 off.0.upper };
 
-    fn read(&self, _state: &State) -> Bounds {
+    fn read(&self, state: &State) -> Bounds {
+        if state.has_bit(0) {
+            return Bounds { lower: 0, upper: 0 };
+        }
         self.0
     }
 }
@@ -80,9 +84,9 @@ fn fault_of(alloc: Global, claim: Claim) -> Result<Option<Fault>, AllocError> {
     let next = state_of(alloc, &[0])?;
     let codes = OpenCodes::new(alloc, &problem)?;
     let mut scratch = Scratch { next, codes };
-    let reading = Same(Bounds {
-        lower: 0,
-        upper: 4_000_000,
+    let reading = Off(Bounds {
+        lower: claim.lower,
+        upper: claim.upper,
     });
     Ok(row_fault(&index, &reading, &tails, claim, &mut scratch))
 }
@@ -91,14 +95,14 @@ fn fault_of(alloc: Global, claim: Claim) -> Result<Option<Fault>, AllocError> {
 fn the_first_fault_of_a_row_is_found(rt: HostRuntime) -> Result<(), Fail> {
     let alloc = rt.alloc();
     let row = Claim {
-        lower: 1_000_000,
-        upper: 5_000_000,
+        lower: 2_000_000,
+        upper: 2_000_000,
         act: Act::Do(0),
     };
     assert!(rt; fault_of(alloc, row)? == None);
     let high = Claim {
-        lower: 1_000_001,
-        upper: 4_999_999,
+        lower: 2_000_001,
+        upper: 1_999_999,
         act: Act::Do(0),
     };
     assert!(rt; fault_of(alloc, high)? == Some(Fault::Lower));
@@ -109,7 +113,7 @@ fn the_first_fault_of_a_row_is_found(rt: HostRuntime) -> Result<(), Fail> {
 fn an_interval_is_compared(rt: HostRuntime) -> Result<(), Fail> {
     let alloc = rt.alloc();
     let problem = coin(alloc)?;
-    let reading = Same(Bounds { lower: 3, upper: 4 });
+    let reading = Off(Bounds { lower: 3, upper: 4 });
     assert!(rt; is_interval(&problem, &reading, 3, 4));
     assert!(rt; !is_interval(&problem, &reading, 4, 4));
     Ok(())

@@ -22,7 +22,7 @@ overflow_mul-lower g c =
           c.loop-choice.invariant.same c.loop-choice.choice-index c.choice-item.result c.loop-choice-test.true c.choice-item.is
           (g.R.Reading.low c.args.reading.now) c.apply.new.into c.loop-choice.lower c.from-weight.result c.from-cost.result
           c.from.result c.from-weight.ensures (c.from-cost.ensures ∙ c.apply.ensures.cost) c.apply.ensures.next
-          (c.from.ensures ∙ c.read-bounds.ensures.lower) (omega (arith, c.from.ensures, c.read-bounds.type_inv))
+          (c.from.ensures ∙ c.read_next-bounds.ensures.lower) (omega (arith, c.from.ensures, c.read_next-bounds.type_inv))
           c.loop-choice.invariant.lower,
     )
 
@@ -34,7 +34,7 @@ overflow_add-lower-in-loop-choice g c =
           c.loop-choice.invariant.same c.loop-choice.choice-index c.choice-item.result c.loop-choice-test.true c.choice-item.is
           (g.R.Reading.low c.args.reading.now) c.apply.new.into c.loop-choice.lower c.from-weight.result c.from-cost.result
           c.from.result c.from-weight.ensures (c.from-cost.ensures ∙ c.apply.ensures.cost) c.apply.ensures.next
-          (c.from.ensures ∙ c.read-bounds.ensures.lower) (omega (arith, c.from.ensures, c.read-bounds.type_inv))
+          (c.from.ensures ∙ c.read_next-bounds.ensures.lower) (omega (arith, c.from.ensures, c.read_next-bounds.type_inv))
           c.loop-choice.invariant.lower,
     )
 
@@ -46,8 +46,8 @@ overflow_mul-upper g c =
           c.loop-choice.invariant.same c.loop-choice.choice-index c.choice-item.result c.loop-choice-test.true c.choice-item.is
           (g.R.Reading.high c.args.reading.now) c.apply.new.into c.loop-choice.upper c.from-weight.result c.from-cost.result
           c.from-in-loop-choice.result c.from-weight.ensures (c.from-cost.ensures ∙ c.apply.ensures.cost) c.apply.ensures.next
-          (c.from-in-loop-choice.ensures ∙ c.read-bounds.ensures.upper)
-          (omega (arith, c.from-in-loop-choice.ensures, c.read-bounds.type_inv)) c.loop-choice.invariant.upper,
+          (c.from-in-loop-choice.ensures ∙ c.read_next-bounds.ensures.upper)
+          (omega (arith, c.from-in-loop-choice.ensures, c.read_next-bounds.type_inv)) c.loop-choice.invariant.upper,
     )
 
 pub overflow_add-upper-in-loop-choice : goal.overflow_add-upper-in-loop-choice
@@ -58,8 +58,8 @@ overflow_add-upper-in-loop-choice g c =
           c.loop-choice.invariant.same c.loop-choice.choice-index c.choice-item.result c.loop-choice-test.true c.choice-item.is
           (g.R.Reading.high c.args.reading.now) c.apply.new.into c.loop-choice.upper c.from-weight.result c.from-cost.result
           c.from-in-loop-choice.result c.from-weight.ensures (c.from-cost.ensures ∙ c.apply.ensures.cost) c.apply.ensures.next
-          (c.from-in-loop-choice.ensures ∙ c.read-bounds.ensures.upper)
-          (omega (arith, c.from-in-loop-choice.ensures, c.read-bounds.type_inv)) c.loop-choice.invariant.upper,
+          (c.from-in-loop-choice.ensures ∙ c.read_next-bounds.ensures.upper)
+          (omega (arith, c.from-in-loop-choice.ensures, c.read_next-bounds.type_inv)) c.loop-choice.invariant.upper,
     )
 
 pub loop-choice-preserved : goal.loop-choice-preserved
@@ -71,14 +71,14 @@ loop-choice-preserved g c = record {
       c.loop-choice.invariant.same c.loop-choice.choice-index c.choice-item.result c.loop-choice-test.true c.choice-item.is
       (g.R.Reading.low c.args.reading.now) c.apply.new.into c.loop-choice.lower c.from-weight.result c.from-cost.result
       c.from.result c.from-weight.ensures (c.from-cost.ensures ∙ c.apply.ensures.cost) c.apply.ensures.next
-      (c.from.ensures ∙ c.read-bounds.ensures.lower) (omega (arith, c.from.ensures, c.read-bounds.type_inv))
+      (c.from.ensures ∙ c.read_next-bounds.ensures.lower) (omega (arith, c.from.ensures, c.read_next-bounds.type_inv))
       c.loop-choice.invariant.lower;
   upper = turn_cost c.args.atoms c.args.action.now c.requires.action c.args.state.now c.as_slice-choice-items.result.now
       c.loop-choice.invariant.same c.loop-choice.choice-index c.choice-item.result c.loop-choice-test.true c.choice-item.is
       (g.R.Reading.high c.args.reading.now) c.apply.new.into c.loop-choice.upper c.from-weight.result c.from-cost.result
       c.from-in-loop-choice.result c.from-weight.ensures (c.from-cost.ensures ∙ c.apply.ensures.cost) c.apply.ensures.next
-      (c.from-in-loop-choice.ensures ∙ c.read-bounds.ensures.upper)
-      (omega (arith, c.from-in-loop-choice.ensures, c.read-bounds.type_inv)) c.loop-choice.invariant.upper;
+      (c.from-in-loop-choice.ensures ∙ c.read_next-bounds.ensures.upper)
+      (omega (arith, c.from-in-loop-choice.ensures, c.read_next-bounds.type_inv)) c.loop-choice.invariant.upper;
 }
 
 pub returns-clause-lower : goal.returns-clause-lower
