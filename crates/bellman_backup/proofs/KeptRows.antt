@@ -1,9 +1,9 @@
 -- Kept transitions stay kept, once more is noted and more is kept.
-use Rattle.std.proofs.Common.{◌≡◌, ℕ, zero, suc, ◌+◌, ◌<◌, ◌≤◌, true, Some, None, List, [], ◌∷◌, ◌++◌, length, get_or, slice_set, refl, sym, ap, ◌∙◌, subst, append_assoc, arith}
-use Rattle.std.specs.Prelude.{Option, IsTrue}
+use Rattle.std.proofs.Common.{◌≡◌, ℕ, zero, suc, ◌+◌, true, Some, List, [], ◌∷◌, ◌++◌, length, get_or, slice_set, refl, sym, ap, ◌∙◌, subst, append_assoc, arith}
+use Rattle.std.specs.Prelude.{Option}
 use Rattle.std.specs.List.{slice_get}
 use Rattle.std.proofs.lemmas.List.{append-nil, length-append, length-set, get_or-set_same, get_or-set_other, get_or_past, get_or_push}
-use Rattle.std.proofs.lemmas.Option.{slice_get-get_or, slice_get_within}
+use Rattle.std.proofs.lemmas.Option.{slice_get-get_or}
 use mathlib.Core.Logic.{dite}
 use native.Mathlib.Decide.{ℕ_discrete, dec_lt}
 use Rattle.ground_model.specs.declared.action.Choice.{Choice}
@@ -13,7 +13,6 @@ use Rattle.ground_model.specs.Choices.{next_state}
 use Rattle.ground_model.specs.Ground.{Ground}
 use Rattle.ground_model.specs.Steps.{ground_process}
 use Rattle.word_view.specs.declared.view.View.{View}
-use Rattle.word_view.specs.Views.{noted_upper}
 use Rattle.word_view.specs.Laws.{HasMore}
 use Rattle.word_view.proofs.Seen.{more_is_later, has_state_more}
 use Rattle.word_table.specs.Seen.{Knowledge}
@@ -21,7 +20,6 @@ use Rattle.state_interner.specs.Interned.{IsIdOf}
 use Rattle.kept_transitions.specs.declared.kept_action.KeptAction.{KeptAction}
 use Rattle.kept_transitions.specs.declared.kept_row.KeptRow.{KeptRow}
 use Rattle.kept_transitions.specs.Rows.{Transitions, IsKept, never, row_of, with_row}
-use Rattle.bellman_backup.specs.Races.{has_all}
 use Rattle.bellman_backup.specs.Kept.{LeadsTo, IsKeptAction, IsKeptAt, AreKept, IsKeptState, IsKeeping, HasGrown}
 
 -- ---- lists that grow

@@ -28,7 +28,7 @@ use Rattle.bound_words.specs.Intervals.{with_interval, word_in, TellsInterval}
 use Rattle.brtdp_trial.specs.declared.step.Step.{Step}
 use Rattle.state_interner.specs.Interned.{GoesOn, IsIdOf, IsFull}
 use Rattle.bellman_backup.specs.declared.sums.Sums.{Sums}
-use Rattle.bellman_backup.specs.Readings.{Reading, IsRead, loads_of}
+use Rattle.bellman_backup.specs.Readings.{Reading, loads_of}
 use Rattle.bellman_backup.specs.Backups.{Keeps}
 use Rattle.bellman_backup.specs.Totals.{IsUsable, IsSmallStep, HasReadNext, HasRead}
 use Rattle.bellman_backup.specs.Choosing.{IsOpenState}

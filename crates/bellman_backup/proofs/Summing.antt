@@ -7,8 +7,8 @@ use Rattle.fixed_round.specs.Means.{weighted}
 use Rattle.fixed_round.specs.Words.{value_of}
 use Rattle.weighted.specs.Mean.{total}
 use Rattle.ground_model.specs.declared.action.Choice.{Choice}
-use Rattle.ground_model.specs.Packed.{State, has_bit}
-use Rattle.ground_model.specs.Choices.{cost_of, next_state}
+use Rattle.ground_model.specs.Packed.{State}
+use Rattle.ground_model.specs.Choices.{next_state}
 use Rattle.ground_model.specs.Ground.{Ground}
 use Rattle.word_view.specs.declared.view.View.{View}
 use Rattle.brtdp_trial.specs.declared.step.Step.{Step}

@@ -1,8 +1,8 @@
 -- Transitions that are put behind the others, one by one.
 use Rattle.std.proofs.Common.{◌≡◌, ℕ, zero, suc, ◌+◌, ◌*◌, ◌<◌, ◌≤◌, ◌^◌, true, false, Some, List, [], ◌∷◌, ◌++◌, length, take, get_or, refl, sym, ap, ◌∙◌, subst, append_assoc, arith}
-use Rattle.std.specs.Prelude.{Bool, IsTrue, Contains}
+use Rattle.std.specs.Prelude.{Bool, IsTrue}
 use Rattle.std.specs.List.{slice_get}
-use Rattle.std.proofs.lemmas.List.{append-nil, length-append, take_more}
+use Rattle.std.proofs.lemmas.List.{append-nil, length-append}
 use Rattle.std.proofs.Math.Seq.{take-append_seam}
 use Rattle.std.proofs.lemmas.Option.{slice_get_within}
 use mathlib.Core.Logic.{dite}
@@ -12,16 +12,13 @@ use Rattle.ground_model.specs.declared.action.Choice.{Choice}
 use Rattle.ground_model.specs.declared.action.GroundAction.{GroundAction}
 use Rattle.ground_model.specs.Packed.{State, has_bit}
 use Rattle.ground_model.specs.Choices.{cost_of, next_state}
-use Rattle.ground_model.specs.Ground.{Ground}
 use Rattle.ground_model.specs.Steps.{ground_process}
-use Rattle.word_view.specs.Laws.{HasMore}
 use Rattle.word_table.specs.Seen.{Board, Knowledge, IsOf}
-use Rattle.state_interner.specs.Interned.{IsIdOf}
 use Rattle.kept_transitions.specs.declared.kept_action.KeptAction.{KeptAction}
 use Rattle.kept_transitions.specs.declared.kept_row.KeptRow.{KeptRow}
 use Rattle.kept_transitions.specs.Rows.{Transitions, AddsId, AddsAction}
 use Rattle.bellman_backup.specs.Backups.{Keeps}
-use Rattle.bellman_backup.specs.Kept.{cost_of_all, LeadsTo, IsKeptAction, IsKeptAt, AreKept, HasGrown}
+use Rattle.bellman_backup.specs.Kept.{cost_of_all, LeadsTo, IsKeptAt, AreKept, HasGrown}
 use Rattle.bellman_backup.specs.Growing.{HasKeptId, HasKeptAction, HaveKeptActions}
 use Rattle.bellman_backup.proofs.Keeping.{keeps_all, keeps_again}
 use Rattle.bellman_backup.proofs.KeptRows.{slice_get_more, slice_get_last, leads_later, at_later, grown_all, grown_again}

@@ -27,7 +27,7 @@ use brtdp_trial::GIVE_UP;
 use fixed_round::UpperWord;
 use ground_model::GroundAction;
 use kept_transitions::{Kept, KeptAction, KeptRow};
-use word_table::{Pass, Words, load_word, meet};
+use word_table::{Pass, Words, load_count, meet};
 
 /// Reads the outcomes of an open action by the ids that are kept of it: the choices as they were read, and the
 /// sums over them.
@@ -99,10 +99,9 @@ fn best_of_kept(
     best
 }
 
-/// The pass learns what the witness has noted, and looks at the state of an id.
-pub(crate) fn recall(words: &Words<'_>, pass: &mut Pass, id: u32, witness: &mut Pass)
+/// The pass learns what the witness has noted, and looks at the table.
+pub(crate) fn recall(words: &Words<'_>, pass: &mut Pass, witness: &mut Pass)
     requires here { IsOf words.now pass.old × IsOf words.now witness.old }
-    requires known { knows pass.old.view id }
     ensures keeps { Keeps words.now pass.old pass.new }
     ensures loads { pass.new.view.loads ≡ pass.old.view.loads }
     ensures heard { HasMore witness.old.view pass.new.view }
@@ -110,9 +109,8 @@ pub(crate) fn recall(words: &Words<'_>, pass: &mut Pass, id: u32, witness: &mut 
     ensures witness { witness.new ≡ witness.old }
 {
     meet(words, pass, witness);
-    // This look tells that the state which is kept of the id is the one that the pass had.
-    let last = words.width() - 1;
-    load_word(words, pass, id, last);
+    // A look tells that an id has one state, so that the one which is kept of an id is the one that the pass had.
+    load_count(words, pass);
 }
 
 /// Reads the open actions of an id's state by what is kept of it, if anything is, and chooses among them and
@@ -139,7 +137,7 @@ fn weigh_learnt(
     let Some(mut witness) = scratch.witness.take() else {
         unreachable!()
     };
-    recall(words, pass, id, &mut witness);
+    recall(words, pass, &mut witness);
     scratch.witness = Some(witness);
     let best = best_of_kept(
         words,

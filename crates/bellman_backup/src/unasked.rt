@@ -167,7 +167,7 @@ pub fn narrow(words: &Words<'_>, pass: &mut Pass, id: u32, scratch: &mut Scratch
     let Some(mut witness) = scratch.witness.take() else {
         unreachable!()
     };
-    recall(words, pass, id, &mut witness);
+    recall(words, pass, &mut witness);
     scratch.witness = Some(witness);
     let least = least_of_kept(words, pass, row, &scratch.kept, upper);
     narrow_from(words, pass, id, lower, upper, least);

@@ -176,7 +176,7 @@ module _ (g : Ground) (l : Layout) (most : ℕ) (slots k : ℕ) (me : Mine) (vie
         Look k None,
         count_load_is_a_step g l most s k me.0 sits,
         record { live = view.live; problem = view.problem; layout = view.layout },
-        (λ _. (refl, count_is_told g l most s k me.0 sits, states_are_told g l most s k me.0 sits)),
+        (λ _. (refl, count_is_told g l most s k me.0 sits, states_are_told g l most s k me.0 sits, one_state_is_told g l most s k me.0 sits)),
       ))
 
   pub claim_allowed : (from : ℕ) → me.0.spare ≡ None → 0 < me.0.rights → from < l.ids

@@ -33,7 +33,7 @@ upper_sunk st m n m' = (id : ℕ) → st.word ≡ upper_at m.0.layout id
     → m' ≡ (with_upper m.0 id st.first, m.1)
 
 abbrev pub counted : Told
-counted st m n m' = (m' ≡ (with_count m.0 n, m.1)) × TellsCount m.0 n × HasOneEach m.0
+counted st m n m' = (m' ≡ (with_count m.0 n, m.1)) × TellsCount m.0 n × HasOneEach m.0 × HasOneState m.0
 
 abbrev pub claimed : Told
 claimed st m n m' =

@@ -18,6 +18,7 @@ pub fn load_count(words: &Words<'_>, pass: &mut Pass) -> u32
     ensures seen { pass.new ≡ knowledge pass.old.table (with_count pass.old.view result) }
     ensures told { TellsCount pass.old.view result }
     ensures one { HasOneEach pass.old.view }
+    ensures state { HasOneState pass.old.view }
 {
     words.table.shared.load::<CountLoad>(&mut pass.seat, 0) as u32
 }

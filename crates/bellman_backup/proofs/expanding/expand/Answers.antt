@@ -1,4 +1,4 @@
-use Rattle.std.proofs.Common.{◌≡◌, ap, ◌∙◌, take}
+use Rattle.std.proofs.Common.{ap, ◌∙◌, take}
 use Rattle.kept_transitions.specs.declared.kept_row.KeptRow.{KeptRow}
 use Rattle.bellman_backup.proofs.TransitionsKept.{row_is_kept, cut_is_grown}
 use Rattle.bellman_backup.proofs.expanding.expand.Goals as goal

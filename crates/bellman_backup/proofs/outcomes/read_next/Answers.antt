@@ -1,4 +1,4 @@
-use Rattle.std.proofs.Common.{◌∙◌, Some, None, refl, ap}
+use Rattle.std.proofs.Common.{◌∙◌, None, refl, ap}
 use Rattle.fixed_round.specs.Words.{value_of}
 use Rattle.bound_core.specs.Numbers.{first_word}
 use Rattle.brtdp_trial.specs.declared.step.Step.{Step}

@@ -1,4 +1,3 @@
-use Rattle.std.proofs.Common.{◌<◌, arith}
 use Rattle.bellman_backup.proofs.Finishing.{weighed_earlier}
 use Rattle.bellman_backup.proofs.Keeping.{keeps_again}
 use Rattle.bellman_backup.proofs.recalling.weigh_kept.Goals as goal

@@ -3,7 +3,7 @@ use Rattle.kept_transitions.specs.Rows.{IsKept}
 use Rattle.bellman_backup.specs.Scratches.{ScratchView}
 use Rattle.bellman_backup.specs.Kept.{IsKeeping}
 use Rattle.bellman_backup.proofs.KeptReads.{row_is_recalled}
-use Rattle.bellman_backup.proofs.Keeping.{keeps_again, keeps_lower_load, keeps_upper_load}
+use Rattle.bellman_backup.proofs.Keeping.{keeps_lower_load}
 use Rattle.bellman_backup.proofs.Leasts.{can_narrow, narrow_keeps, narrow_narrows}
 use Rattle.bellman_backup.proofs.unasked.narrow.Goals as goal
 
@@ -11,12 +11,6 @@ pub load_upper-upper-requires-clause-known : goal.load_upper-upper-requires-clau
 load_upper-upper-requires-clause-known c =
     (keeps_lower_load c.args.words.now c.args.pass.now c.load_lower-lower.new.pass c.args.id c.load_lower-lower.result c.requires.here c.load_lower-lower.ensures.seen).noted.known
     c.args.id c.requires.known
-
-pub recall-requires-clause-known : goal.recall-requires-clause-known
-recall-requires-clause-known c =
-    let b = c.args.words.now in let k = c.args.pass.now in let l = c.load_lower-lower.new.pass in let m = c.load_upper-upper.new.pass in let id = c.args.id in
-    let first = keeps_lower_load b k l id c.load_lower-lower.result c.requires.here c.load_lower-lower.ensures.seen in
-    (keeps_again b k l m first (keeps_upper_load b l m id c.load_upper-upper.result first.here c.load_upper-upper.ensures.seen)).noted.known id c.requires.known
 
 pub least_of_kept-least-requires-clause-kept : goal.least_of_kept-least-requires-clause-kept
 least_of_kept-least-requires-clause-kept c =
