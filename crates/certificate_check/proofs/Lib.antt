@@ -1,5 +1,6 @@
 pub mod Acts
 pub mod Arena
+pub mod Buckets
 pub mod Distinct
 pub mod Ending
 pub mod Places
@@ -8,5 +9,4 @@ pub mod Rising
 pub mod RowVerdict
 pub mod Sound
 pub mod Stating
-pub mod Table
 pub mod Verdicts

@@ -149,7 +149,7 @@ module _ (g : Ground) (c : Content) (is : IsCertificate c) where
   ]
 
   module _ (r : Row) (inside : Contains c.rows r) (known : knows g c r ≡ true) where
-    read : row_at same_state (rows_of g c c.rows) (row_state g c r) ≡ Some (row_of g c r)
+    pub read : row_at same_state (rows_of g c c.rows) (row_state g c r) ≡ Some (row_of g c r)
     read = row_is_read (ground_process g) same_state states_exact (rows_of g c c.rows) (states_differ g c is) (row_of g c r)
         (kept_row c.rows r inside known)
 

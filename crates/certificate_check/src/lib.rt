@@ -1,7 +1,7 @@
 //! Whether certificates of ground problems are balanced.
 //!
 //! A certificate's tables are turned into numbers of the problem once, and its rows into packed states in
-//! one arena, with a hash table from states to values. Then one pass tests each row, and takes no memory.
+//! one arena, with a hash table from states to rows. Then one pass tests each row, and takes no memory.
 #![tactic(auto)]
 
 mod checker;

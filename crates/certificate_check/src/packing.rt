@@ -22,6 +22,24 @@ pub(crate) fn state_width(problem: &GroundProblem) -> usize
     problem.atoms().len().div_ceil(64).max(1)
 }
 
+/// A state of so many words.
+pub(crate) fn blank(alloc: Global, width: usize) -> Result<State, AllocError>
+    ensures { IfOk result (λ state. length state ≡ width) }
+{
+    let words = vec![in alloc; 0u64; width]?;
+    Ok(State::from_words(List::from_vec(words)))
+}
+
+/// Writes words into a state of as many.
+pub(crate) fn copy_words(words: &[u64], into: &mut State)
+    requires { length into.old ≡ length words.now }
+    ensures { into.new ≡ words.now }
+{
+    for (place, word) in words.iter().enumerate() {
+        into.set_word(place, *word);
+    }
+}
+
 /// The states of rows, one behind another, and of each row whether the problem has its atoms.
 #[derive(Drop)]
 pub(crate) struct PackedRows {
@@ -122,7 +140,7 @@ pub(crate) fn pack_rows(
 {
     let mut words = Vec::with_capacity(alloc, rows.len().saturating_mul(width))?;
     let mut known = Vec::with_capacity(alloc, rows.len())?;
-    let mut state = State::from_words(List::from_vec(vec![in alloc; 0u64; width]?));
+    let mut state = blank(alloc, width)?;
     make_all_false(&mut state);
     let mut before: &[u32] = &[];
     let mut is_known = true;

@@ -16,7 +16,7 @@ impl<'a> Reading for RowTable<'a> {
 
     fn read(&self, state: &State) -> Bounds {
         let problem = self.rows().problem();
-        let bounds = self.bounds(state.words()).unwrap_or(Bounds {
+        let bounds = self.bounds(state).unwrap_or(Bounds {
             lower: 0,
             upper: problem.penalty(),
         });

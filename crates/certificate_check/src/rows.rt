@@ -4,10 +4,10 @@ ghost use Rattle.std.specs.Prelude.{◌≡◌, ◌<◌, length, IfOk};
 ghost use Rattle.certificate_check.specs.Pass.{HasRoomFor, TellsOfRow, TellsOfRows};
 ghost use Rattle.certificate_check.specs.Verdicts.{verdict_of};
 
-use crate::packing::state_width;
+use crate::packing::{blank, copy_words, state_width};
 use crate::row_table::RowTable;
 use crate::verdict::Verdict;
-use ground_model::{GroundProblem, List, State};
+use ground_model::{GroundProblem, State};
 use open_actions::{OpenActions, OpenCodes};
 use row_check::{Claim, Fault, Scratch, row_fault};
 use std::alloc::{AllocError, Global};
@@ -17,14 +17,6 @@ use std::alloc::{AllocError, Global};
 pub(crate) struct Room {
     pub state: State,
     pub scratch: Scratch,
-}
-
-/// A state of so many words.
-fn blank(alloc: Global, width: usize) -> Result<State, AllocError>
-    ensures { IfOk result (λ state. length state ≡ width) }
-{
-    let words = vec![in alloc; 0u64; width]?;
-    Ok(State::from_words(List::from_vec(words)))
 }
 
 impl Room {
@@ -40,16 +32,6 @@ impl Room {
             state,
             scratch: Scratch { next, codes },
         })
-    }
-}
-
-/// Writes words into a state of as many.
-fn copy_words(words: &[u64], into: &mut State)
-    requires { length into.old ≡ length words.now }
-    ensures { into.new ≡ words.now }
-{
-    for (place, word) in words.iter().enumerate() {
-        into.set_word(place, *word);
     }
 }
 

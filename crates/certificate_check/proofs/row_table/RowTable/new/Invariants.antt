@@ -1,12 +1,10 @@
-use Rattle.std.proofs.Common.{◌≤◌, length}
-use Rattle.certificate_check.specs.GroundRows.{HasFrom, by_state}
+use Rattle.std.proofs.Common.{◌≡◌, length}
+use Rattle.ground_model.specs.Packed.{words_for}
+use Rattle.certificate_check.specs.Buckets.{HasLinks}
 use Rattle.certificate_check.proofs.row_table.RowTable.new.Given as goal
 
 abbrev pub invariant-loop-place : goal.invariant-loop-place
 invariant-loop-place l = record {
-  within : l.place ≤ length l.rows.certificate.rows;
-  has : HasFrom l.rows l.place (by_state l.entries.entries (λ k. k.now));
+  state : length l.state ≡ words_for (length l.rows.problem.atoms);
+  links : HasLinks l.rows l.place l.lasts.items l.befores.items;
 }
-
-abbrev pub decreases-loop-place : goal.decreases-loop-place
-decreases-loop-place l = l.place

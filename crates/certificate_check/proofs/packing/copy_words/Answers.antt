@@ -1,7 +1,7 @@
 -- All words are copied.
 use Rattle.std.proofs.Common.{arith}
 use Rattle.std.proofs.lemmas.List.{ext_get_or}
-use Rattle.certificate_check.proofs.rows.copy_words.Goals as goal
+use Rattle.certificate_check.proofs.packing.copy_words.Goals as goal
 
 pub returns : goal.returns
 returns c =

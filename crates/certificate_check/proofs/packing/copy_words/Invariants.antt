@@ -1,6 +1,6 @@
 use Rattle.std.proofs.Common.{◌≡◌, ◌<◌, ℕ, length}
 use Rattle.std.specs.Prelude.{get_or}
-use Rattle.certificate_check.proofs.rows.copy_words.Given as goal
+use Rattle.certificate_check.proofs.packing.copy_words.Given as goal
 
 abbrev pub invariant-loop-place : goal.invariant-loop-place
 invariant-loop-place l =
