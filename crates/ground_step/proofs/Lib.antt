@@ -2,5 +2,6 @@ pub mod Truth
 pub mod Names
 pub mod Packed
 pub mod Edits
+pub mod Marks
 pub mod Outcomes
 pub mod Ranges

@@ -1,4 +1,5 @@
 pub mod Edits
+pub mod Marks
 pub mod Steps
 pub mod Atoms
 pub mod Names

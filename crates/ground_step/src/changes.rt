@@ -3,10 +3,8 @@
 ghost use Rattle.std.specs.Prelude.{◌≡◌, length};
 ghost use Rattle.ground_model.specs.Packed.{has_bit, packed};
 ghost use Rattle.ground_step.specs.Edits.{with_atom, without_atom, with_atoms, without_atoms};
-ghost use Rattle.ground_step.specs.Edits.{with_parts, without_parts};
 
-use crate::conditions::holds;
-use ground_model::{Guarded, State};
+use ground_model::State;
 
 /// Makes an atom true; one past the last bit is left out.
 pub fn make_true(state: &mut State, atom: u32)
@@ -47,28 +45,6 @@ pub(crate) fn delete_all(state: &mut State, atoms: &[u32])
 {
     for atom in atoms {
         make_false(state, *atom);
-    }
-}
-
-/// Makes true what the guarded parts add whose condition holds in the state before.
-pub(crate) fn add_guarded(state: &mut State, parts: &[Guarded], before: &State)
-    ensures { state.new ≡ with_parts (has_bit before.now) state.old parts.now }
-{
-    for part in parts {
-        if holds(&part.condition, before) {
-            add_all(state, part.adds.as_slice());
-        }
-    }
-}
-
-/// Makes false what the guarded parts delete whose condition holds in the state before.
-pub(crate) fn delete_guarded(state: &mut State, parts: &[Guarded], before: &State)
-    ensures { state.new ≡ without_parts (has_bit before.now) state.old parts.now }
-{
-    for part in parts {
-        if holds(&part.condition, before) {
-            delete_all(state, part.deletes.as_slice());
-        }
     }
 }
 

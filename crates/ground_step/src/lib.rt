@@ -9,6 +9,7 @@ mod action_names;
 mod atoms;
 mod changes;
 mod conditions;
+mod guarded;
 mod hashing;
 mod laws;
 mod steps;

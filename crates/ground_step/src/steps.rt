@@ -1,15 +1,15 @@
 //! The steps of a ground problem.
 
 ghost use Rattle.std.specs.Prelude.{◌≡◌, ◌<◌, ◌≤◌, Some, length, option_map};
-ghost use Rattle.std.specs.Prelude.{◌+◌, ◌^◌};
 ghost use Rattle.ground_model.specs.Packed.{has_bit};
-ghost use Rattle.ground_model.specs.Choices.{active_cost, cost_of, next_state};
+ghost use Rattle.ground_model.specs.Choices.{cost_of, next_state};
 ghost use Rattle.ground_model.specs.Steps.{is_open, ground_process};
 ghost use Rattle.ground_step.specs.Steps.{choices_of, next_at, cost_at};
 
-use crate::changes::{add_all, add_guarded, copy_bits, delete_all, delete_guarded};
+use crate::changes::{add_all, copy_bits, delete_all};
 use crate::conditions::holds;
-use ground_model::{Choice, GroundProblem, Guarded, MOST_CHOICE_COST, State};
+use crate::guarded::{add_guarded, delete_guarded};
+use ground_model::{Choice, GroundProblem, MOST_CHOICE_COST, State};
 
 /// Whether the action of this code is open in a state.
 pub fn applicable(problem: &GroundProblem, action: u16, state: &State) -> bool
@@ -26,20 +26,6 @@ pub fn is_goal(problem: &GroundProblem, state: &State) -> bool
     holds(problem.goal(), state)
 }
 
-/// The cost with that of the guarded parts whose condition holds in the state before.
-fn cost_guarded(cost: u64, parts: &[Guarded], before: &State) -> u64
-    requires { cost + active_cost (has_bit before.now) parts.now < 2 ^ 64 }
-    ensures { result ≡ cost + active_cost (has_bit before.now) parts.now }
-{
-    let mut sum = cost;
-    for part in parts {
-        if holds(&part.condition, before) {
-            sum += part.cost;
-        }
-    }
-    sum
-}
-
 /// Writes the state after a choice into a state of the same length, and answers what the choice costs,
 /// in micro-units.
 ///
@@ -54,10 +40,10 @@ pub fn apply(choice: &Choice, state: &State, into: &mut State) -> u64
     let guarded = choice.guarded.as_slice();
     copy_bits(state, into);
     delete_all(into, choice.deletes.as_slice());
-    delete_guarded(into, guarded, state);
+    let held = delete_guarded(into, guarded, state, choice.cost);
     add_all(into, choice.adds.as_slice());
-    add_guarded(into, guarded, state);
-    cost_guarded(choice.cost, guarded, state)
+    add_guarded(into, guarded, state, held.marks);
+    held.cost
 }
 
 /// Writes the state after a choice of an action into a state of the same length, and answers what the

@@ -10,7 +10,7 @@ returns-clause-next c =
     let bit : ℕ → Bool = has_bit c.args.state.now in
     c.add_guarded.ensures
     ∙ (λ i. with_parts bit (c.add_all.ensures i) (c.as_slice-guarded.ensures i))
-    ∙ (λ i. with_parts bit (with_atoms (c.delete_guarded.ensures i) (c.as_slice-2.ensures i)) c.args.choice.now.guarded)
+    ∙ (λ i. with_parts bit (with_atoms (c.delete_guarded-held.ensures.state i) (c.as_slice-2.ensures i)) c.args.choice.now.guarded)
     ∙ (λ i.
     with_parts bit
     (with_atoms (without_parts bit (c.delete_all.ensures i) (c.as_slice-guarded.ensures i)) c.args.choice.now.adds)

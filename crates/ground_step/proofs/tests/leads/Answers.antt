@@ -1,5 +1,5 @@
 -- A choice costs no more than all its parts.
-use Rattle.std.proofs.Common.{◌≤◌, arith}
+use Rattle.std.proofs.Common.{arith}
 use Rattle.ground_model.specs.Packed.{has_bit}
 use Rattle.ground_step.proofs.Outcomes.{cost_of-parts}
 use Rattle.ground_step.proofs.tests.leads.Goals as goal

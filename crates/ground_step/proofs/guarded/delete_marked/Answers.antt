@@ -1,0 +1,97 @@
+-- The mark of a part that holds is below the end of the word, and is added once.
+use Rattle.std.proofs.Common.{◌≡◌, ◌<◌, ◌≤◌, ◌+◌, ◌*◌, ◌^◌, ◌%◌, length, ℕ, suc, Bool, true, false, cond, List, ◌∷◌, drop, get_or, sym, ap, ◌∙◌, add-one, arith}
+use Rattle.std.proofs.Math.Seq.{drop-cons}
+use Rattle.std.proofs.Math.Nat.{pow-le-pow_right}
+use Rattle.std.proofs.lemmas.Nat.{one_shl}
+use Rattle.ground_model.specs.declared.action.Guarded.{Guarded}
+use Rattle.ground_model.specs.Packed.{State, has_bit}
+use Rattle.ground_model.specs.Truth.{truth}
+use Rattle.ground_model.specs.Choices.{active_cost}
+use Rattle.ground_step.specs.Edits.{without_atoms, without_parts}
+use Rattle.ground_step.specs.Marks.{marks_of}
+use Rattle.ground_step.proofs.Marks.{marks_below, marks_passed}
+use Rattle.ground_step.proofs.guarded.delete_marked.Goals.{then-holds, else-holds}
+use Rattle.ground_step.proofs.guarded.delete_marked.Goals as goal
+
+next : (xs : List Guarded) (i : ℕ) (x : Guarded) → i < length xs → x ≡ get_or xs i x → drop i xs ≡ x ∷ drop (i + 1) xs
+next xs i x within is =
+    drop-cons xs i x within ∙ ap (λ y. y ∷ drop (suc i) xs) (sym is) ∙ ap (λ k. x ∷ drop k xs) (sym (add-one i))
+
+-- after a part: the state, the marks and the cost
+module _ (bit : ℕ → Bool) (xs : List Guarded) (i : ℕ) (x : Guarded) (holds : Bool)
+    (within : i < length xs) (is : x ≡ get_or xs i x) (truly : truth bit x.condition ≡ holds) where
+  state_passed : (s here from : State) → here ≡ cond holds (without_atoms s x.deletes) s
+      → without_parts bit s (drop i xs) ≡ from → without_parts bit here (drop (i + 1) xs) ≡ from
+  state_passed s here from e so_far =
+      ap (λ t. without_parts bit t (drop (i + 1) xs)) (e ∙ ap (λ b. cond b (without_atoms s x.deletes) s) (sym truly))
+      ∙ sym (ap (without_parts bit s) (next xs i x within is)) ∙ so_far
+
+  marks_after : (held here : ℕ) → here ≡ held + cond holds (2 ^ i) 0
+      → held + 2 ^ i * marks_of bit (drop i xs) ≡ marks_of bit xs
+      → here + 2 ^ (i + 1) * marks_of bit (drop (i + 1) xs) ≡ marks_of bit xs
+  marks_after held here e so_far =
+      ap (λ h. h + 2 ^ (i + 1) * marks_of bit (drop (i + 1) xs)) (e ∙ ap (λ b. held + cond b (2 ^ i) 0) (sym truly))
+      ∙ marks_passed bit xs i held x (next xs i x within is) ∙ so_far
+
+  cost_passed : (cost here sum : ℕ) → here ≡ cost + cond holds x.cost 0
+      → cost + active_cost bit (drop i xs) ≡ sum → here + active_cost bit (drop (i + 1) xs) ≡ sum
+  cost_passed cost here sum e so_far =
+      let own : cond (truth bit x.condition) x.cost 0 ≡ cond holds x.cost 0 = ap (λ b. cond b x.cost 0) truly in
+      let split : active_cost bit (drop i xs) ≡ cond (truth bit x.condition) x.cost 0 + active_cost bit (drop (i + 1) xs) =
+      ap (active_cost bit) (next xs i x within is) in
+      omega (arith, own, split, e, so_far)
+
+none : (n : ℕ) → n ≡ n + 0
+none n = omega arith
+
+below_word : (bit : ℕ → Bool) (xs : List Guarded) → length xs ≤ 64 → marks_of bit xs < 2 ^ 64
+below_word bit xs few =
+    let most : 2 ^ length xs ≤ 2 ^ 64 = pow-le-pow_right (omega arith) few in
+    omega (arith, most, marks_below bit xs)
+
+pub overflow_add-held : goal.overflow_add-held
+overflow_add-held c =
+    let bit : ℕ → Bool = has_bit c.args.before.now in
+    let place : ℕ = c.loop-place.place in
+    let parts : List Guarded = c.args.parts.now in
+    let within : place < 64 = omega (arith, c.loop-place-test.true, c.requires.marks) in
+    let mark : 1 * 2 ^ place % 2 ^ 64 ≡ 2 ^ place = one_shl place 64 within in
+    let all : (c.loop-place.held.marks + 2 ^ place) + 2 ^ (place + 1) * marks_of bit (drop (place + 1) parts) ≡ marks_of bit parts =
+    marks_after bit parts place c.index-parts-place.result true c.loop-place-test.true c.index-parts-place.is
+    (sym c.holds.ensures ∙ c.if-holds.true) c.loop-place.held.marks (c.loop-place.held.marks + 2 ^ place)
+    (λ _. c.loop-place.held.marks + 2 ^ place) c.loop-place.invariant.1 in
+    omega (arith, mark, all, below_word bit parts c.requires.marks)
+
+pub loop-place-preserved : goal.loop-place-preserved
+loop-place-preserved c =
+    let bit : ℕ → Bool = has_bit c.args.before.now in
+    let place : ℕ = c.loop-place.place in
+    let parts : List Guarded = c.args.parts.now in
+    let held : ℕ = c.loop-place.held.marks in
+    let x : Guarded = c.index-parts-place.result in
+    elim c.if-holds.branch [
+      | then-holds w ↦
+          let truly : truth bit x.condition ≡ true = sym c.holds.ensures ∙ w.if-holds.true in
+          let within : place < length parts = c.loop-place-test.true in (
+            state_passed bit parts place x true within c.index-parts-place.is truly
+                c.loop-place.state c.if-holds.state (without_parts bit c.args.state.now parts)
+                (w.state-is ∙ w.delete_all.ensures ∙ ap (without_atoms c.loop-place.state) w.as_slice.ensures)
+                c.loop-place.invariant.0,
+            marks_after bit parts place x true within c.index-parts-place.is truly held c.if-holds.held.marks
+                (ap (λ h. h.marks) w.held-is
+                ∙ ap (λ n. held + n) (one_shl place 64 (omega (arith, c.loop-place-test.true, c.requires.marks))))
+                c.loop-place.invariant.1,
+            cost_passed bit parts place x true within c.index-parts-place.is truly c.loop-place.held.cost c.if-holds.held.cost
+                (c.args.cost + active_cost bit parts) (ap (λ h. h.cost) w.held-is) c.loop-place.invariant.2,
+          )
+      | else-holds w ↦
+          let truly : truth bit x.condition ≡ false = sym c.holds.ensures ∙ w.if-holds.false in
+          let within : place < length parts = c.loop-place-test.true in (
+            state_passed bit parts place x false within c.index-parts-place.is truly
+                c.loop-place.state c.if-holds.state (without_parts bit c.args.state.now parts) w.state-is c.loop-place.invariant.0,
+            marks_after bit parts place x false within c.index-parts-place.is truly held c.if-holds.held.marks
+                (ap (λ h. h.marks) w.held-is ∙ none held) c.loop-place.invariant.1,
+            cost_passed bit parts place x false within c.index-parts-place.is truly c.loop-place.held.cost c.if-holds.held.cost
+                (c.args.cost + active_cost bit parts) (ap (λ h. h.cost) w.held-is ∙ none c.loop-place.held.cost) c.loop-place.invariant.2,
+          )
+    ]
