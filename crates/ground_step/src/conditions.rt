@@ -61,3 +61,26 @@ pub fn holds(condition: &GroundCondition, state: &State) -> bool
         }
     }
 }
+
+/// Whether a guard holds in a state. Most guards are literals or conjunctions of literals, and are told
+/// without a call.
+// Inlined, as is the truth of a literal, into the one loop over guards that tests most of them.
+#[inline(always)]
+#[tactic(auto, using(crate::proofs::Truth::truth_at))]
+pub(crate) fn guard_holds(guard: &GroundCondition, state: &State) -> bool
+    ensures { result ≡ truth (has_bit state.now) guard.now }
+{
+    let GroundCondition::All(parts) = guard else {
+        return holds(guard, state);
+    };
+    for part in parts.as_slice() {
+        let held = match literal_holds(part, state) {
+            Some(held) => held,
+            None => holds(part, state),
+        };
+        if !held {
+            return false;
+        }
+    }
+    true
+}

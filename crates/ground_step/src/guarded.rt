@@ -7,7 +7,7 @@ ghost use Rattle.ground_step.specs.Edits.{with_parts, without_parts};
 ghost use Rattle.ground_step.specs.Marks.{marks_of, with_marked};
 
 use crate::changes::{add_all, delete_all};
-use crate::conditions::holds;
+use crate::conditions::{guard_holds, holds};
 use ground_model::{Guarded, State};
 
 /// How many guarded parts have a mark: one for each bit of a word.
@@ -32,7 +32,7 @@ fn delete_marked(state: &mut State, parts: &[Guarded], before: &State, cost: u64
 {
     let mut held = Held { marks: 0, cost };
     for (place, part) in parts.iter().enumerate() {
-        if holds(&part.condition, before) {
+        if guard_holds(&part.condition, before) {
             delete_all(state, part.deletes.as_slice());
             held.marks += 1 << place;
             held.cost += part.cost;

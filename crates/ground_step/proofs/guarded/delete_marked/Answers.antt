@@ -10,7 +10,7 @@ use Rattle.ground_model.specs.Choices.{active_cost}
 use Rattle.ground_step.specs.Edits.{without_atoms, without_parts}
 use Rattle.ground_step.specs.Marks.{marks_of}
 use Rattle.ground_step.proofs.Marks.{marks_below, marks_passed}
-use Rattle.ground_step.proofs.guarded.delete_marked.Goals.{then-holds, else-holds}
+use Rattle.ground_step.proofs.guarded.delete_marked.Goals.{then-guard_holds, else-guard_holds}
 use Rattle.ground_step.proofs.guarded.delete_marked.Goals as goal
 
 next : (xs : List Guarded) (i : ℕ) (x : Guarded) → i < length xs → x ≡ get_or xs i x → drop i xs ≡ x ∷ drop (i + 1) xs
@@ -58,7 +58,7 @@ overflow_add-held c =
     let mark : 1 * 2 ^ place % 2 ^ 64 ≡ 2 ^ place = one_shl place 64 within in
     let all : (c.loop-place.held.marks + 2 ^ place) + 2 ^ (place + 1) * marks_of bit (drop (place + 1) parts) ≡ marks_of bit parts =
     marks_after bit parts place c.index-parts-place.result true c.loop-place-test.true c.index-parts-place.is
-    (sym c.holds.ensures ∙ c.if-holds.true) c.loop-place.held.marks (c.loop-place.held.marks + 2 ^ place)
+    (sym c.guard_holds.ensures ∙ c.if-guard_holds.true) c.loop-place.held.marks (c.loop-place.held.marks + 2 ^ place)
     (λ _. c.loop-place.held.marks + 2 ^ place) c.loop-place.invariant.1 in
     omega (arith, mark, all, below_word bit parts c.requires.marks)
 
@@ -69,29 +69,29 @@ loop-place-preserved c =
     let parts : List Guarded = c.args.parts.now in
     let held : ℕ = c.loop-place.held.marks in
     let x : Guarded = c.index-parts-place.result in
-    elim c.if-holds.branch [
-      | then-holds w ↦
-          let truly : truth bit x.condition ≡ true = sym c.holds.ensures ∙ w.if-holds.true in
+    elim c.if-guard_holds.branch [
+      | then-guard_holds w ↦
+          let truly : truth bit x.condition ≡ true = sym c.guard_holds.ensures ∙ w.if-guard_holds.true in
           let within : place < length parts = c.loop-place-test.true in (
             state_passed bit parts place x true within c.index-parts-place.is truly
-                c.loop-place.state c.if-holds.state (without_parts bit c.args.state.now parts)
+                c.loop-place.state c.if-guard_holds.state (without_parts bit c.args.state.now parts)
                 (w.state-is ∙ w.delete_all.ensures ∙ ap (without_atoms c.loop-place.state) w.as_slice.ensures)
                 c.loop-place.invariant.0,
-            marks_after bit parts place x true within c.index-parts-place.is truly held c.if-holds.held.marks
+            marks_after bit parts place x true within c.index-parts-place.is truly held c.if-guard_holds.held.marks
                 (ap (λ h. h.marks) w.held-is
                 ∙ ap (λ n. held + n) (one_shl place 64 (omega (arith, c.loop-place-test.true, c.requires.marks))))
                 c.loop-place.invariant.1,
-            cost_passed bit parts place x true within c.index-parts-place.is truly c.loop-place.held.cost c.if-holds.held.cost
+            cost_passed bit parts place x true within c.index-parts-place.is truly c.loop-place.held.cost c.if-guard_holds.held.cost
                 (c.args.cost + active_cost bit parts) (ap (λ h. h.cost) w.held-is) c.loop-place.invariant.2,
           )
-      | else-holds w ↦
-          let truly : truth bit x.condition ≡ false = sym c.holds.ensures ∙ w.if-holds.false in
+      | else-guard_holds w ↦
+          let truly : truth bit x.condition ≡ false = sym c.guard_holds.ensures ∙ w.if-guard_holds.false in
           let within : place < length parts = c.loop-place-test.true in (
             state_passed bit parts place x false within c.index-parts-place.is truly
-                c.loop-place.state c.if-holds.state (without_parts bit c.args.state.now parts) w.state-is c.loop-place.invariant.0,
-            marks_after bit parts place x false within c.index-parts-place.is truly held c.if-holds.held.marks
+                c.loop-place.state c.if-guard_holds.state (without_parts bit c.args.state.now parts) w.state-is c.loop-place.invariant.0,
+            marks_after bit parts place x false within c.index-parts-place.is truly held c.if-guard_holds.held.marks
                 (ap (λ h. h.marks) w.held-is ∙ none held) c.loop-place.invariant.1,
-            cost_passed bit parts place x false within c.index-parts-place.is truly c.loop-place.held.cost c.if-holds.held.cost
+            cost_passed bit parts place x false within c.index-parts-place.is truly c.loop-place.held.cost c.if-guard_holds.held.cost
                 (c.args.cost + active_cost bit parts) (ap (λ h. h.cost) w.held-is ∙ none c.loop-place.held.cost) c.loop-place.invariant.2,
           )
     ]
