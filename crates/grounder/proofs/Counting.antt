@@ -18,7 +18,7 @@ use Rattle.grounding.specs.declared.limits.LimitCode.{LimitCode}
 use Rattle.grounding.specs.declared.limits.LimitCode.TheVariants.{Objects}
 use Rattle.grounding.specs.declared.refusal.GroundRefusal.TheVariants.{Limit, NoPenalty}
 use Rattle.grounding.specs.Limits.{free_action, limited, limits, grounded, checked}
-use Rattle.task_facts.specs.Adding.{with_names}
+use Rattle.numbered_atoms.specs.Adding.{with_names}
 use Rattle.task_charges.specs.Charges.{step_charges, is_free, charged_with}
 use Rattle.grounder.specs.ObjectNames.{object_name}
 use Rattle.grounder.proofs.Refusing.{free_is, no_penalty, is_limited}

@@ -5,7 +5,7 @@ ghost use Rattle.ppddl_model.specs.Steps.{base_cost, world};
 ghost use Rattle.grounding.specs.declared.limits.TheConstants.{MOST_OBJECTS};
 ghost use Rattle.grounding.specs.Limits.{grounded};
 ghost use Rattle.task_charges.specs.Charges.{step_charges};
-ghost use Rattle.task_facts.specs.Adding.{with_names};
+ghost use Rattle.numbered_atoms.specs.Adding.{with_names};
 ghost use Rattle.grounder.specs.Answers.{terms_of, Refuses};
 ghost use Rattle.grounder.specs.ObjectNames.{object_name};
 

@@ -181,6 +181,11 @@ module _ (w : World) (params later : List Param) (first : Param) (o : ℕ) (row 
       ∙ before (o ∷ rest)
       ∙ ap (bound_to w later rest) same_scope
 
+  pub bound_there : ((rest : List ℕ) → bound_to w params (row ++ rest) [] ≡ bound_to w (first ∷ later) rest b)
+      → bound_to w params pushed [] ≡ (name, object) ∷ b
+  bound_there before =
+      ap (λ l. bound_to w params l []) (sym (append-nil pushed)) ∙ next_bound before [] ∙ bound_none w later ((name, object) ∷ b)
+
   pushed_long : length pushed ≡ length row + 1
   pushed_long = ap length put ∙ length-append row (o ∷ [])
 
@@ -200,3 +205,6 @@ module _ (w : World) (params later : List Param) (first : Param) (o : ℕ) (row 
 
   pub shorter_again : (n : ℕ) (after : List ℕ) → n ≡ length row → after ≡ pushed → take n after ≡ row
   shorter_again n after long same = ap (take n) (same ∙ put) ∙ ap (λ k. take k (row ++ o ∷ [])) long ∙ row_shorter row o
+
+pub pushed_suc : (row pushed : List ℕ) (o : ℕ) → pushed ≡ row ++ o ∷ [] → length pushed ≡ suc (length row)
+pushed_suc row pushed o put = ap length put ∙ length-append row (o ∷ []) ∙ add-one (length row)

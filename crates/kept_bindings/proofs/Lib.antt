@@ -4,3 +4,5 @@ pub mod Alike
 pub mod Conjoined
 pub mod Staging
 pub mod Valuing
+mod Placing
+mod Testing

@@ -117,10 +117,10 @@ module _ (w : World) (cs : List Condition) where
           ∙ and_swap (list_all f (tests_of s)) (list_all f others) (list_all (λ (x : Stage). list_all f (tests_of x)) later);
     }
 
-pushed_first : (stages after : List Stage) (s : Stage) → after ≡ stages ++ s ∷ [] → reverse after ≡ s ∷ reverse stages
+pub pushed_first : (stages after : List Stage) (s : Stage) → after ≡ stages ++ s ∷ [] → reverse after ≡ s ∷ reverse stages
 pushed_first stages after s is = ap reverse is ∙ reverse-append stages (s ∷ [])
 
-from_place : (params : List Param) (place : ℕ) (p : Param) → 0 < place → place ≤ length params → p ≡ get_or params (place - 1) p
+pub from_place : (params : List Param) (place : ℕ) (p : Param) → 0 < place → place ≤ length params → p ≡ get_or params (place - 1) p
     → drop (place - 1) params ≡ p ∷ drop place params
 from_place params place p some within is =
     let before : suc (place - 1) ≡ place = omega (arith, some) in

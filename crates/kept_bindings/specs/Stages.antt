@@ -6,6 +6,7 @@
 --     conditions_of references     the conditions to which these lead
 --     may_hold task b c            whether a condition is not known to be false
 --     may_all_hold task b cs       whether this is so of each of these conditions
+--     tests_of stage               the conditions of its tests
 --     params_of stages             the parameters
 --     may_pass task stages b       whether no test of the stages is known to be false
 --     are_settled stages           whether no test of a stage names the parameter of a later one
@@ -29,6 +30,7 @@ use Rattle.ppddl_model.specs.Changing.{known_of}
 use Rattle.type_table.specs.Types.{object_at}
 use Rattle.task_facts.specs.Facts.{table_of}
 use Rattle.kept_bindings.specs.declared.stages.Stage.{Stage}
+use Rattle.kept_bindings.specs.declared.test.Test.{Test}
 
 abbrev pub is_variable : Name → Term → Bool
 is_variable v (Variable u) = same_name v u
@@ -72,7 +74,7 @@ abbrev pub may_all_hold : Task → Binding → List Condition → Bool
 may_all_hold task b cs = list_all (may_hold task b) cs
 
 abbrev pub tests_of : Stage → List Condition
-tests_of s = conditions_of s.tests.items
+tests_of s = map (λ (t : Test). t.condition.now) s.tests.items
 
 abbrev pub params_of : List Stage → List Param
 params_of = map (λ (s : Stage). s.param.now)

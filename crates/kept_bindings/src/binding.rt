@@ -2,54 +2,26 @@
 
 ghost use Rattle.std.specs.Prelude.{◌≡◌, ◌<◌, ◌≤◌, true, ℕ, List, [], ◌∷◌, ◌++◌};
 ghost use Rattle.std.specs.Prelude.{length, drop, All, IfOk, OnOk};
-ghost use Rattle.ppddl_model.specs.Known.{is_not_false};
 ghost use Rattle.ppddl_model.specs.Objects.{bindings};
 ghost use Rattle.ppddl_model.specs.Steps.{world};
 ghost use Rattle.ground_names.specs.Scopes.{binding_of};
 ghost use Rattle.task_facts.specs.Facts.{table_of};
 ghost use Rattle.kept_bindings.specs.Kept.{bound_to, IsAdded, AreKept};
 ghost use Rattle.kept_bindings.specs.Terms.{DecideValues};
-ghost use Rattle.kept_bindings.specs.Stages.{conditions_of, may_hold, may_all_hold};
-ghost use Rattle.kept_bindings.specs.Stages.{params_of, IsLeft};
+ghost use Rattle.kept_bindings.specs.Patterns.{terms_in, IsTermTest, ArePrepared};
+ghost use Rattle.kept_bindings.specs.Stages.{may_hold, params_of, IsLeft};
 
 use crate::rows::Rows;
 use crate::stages::{Stage, Stages, stages_of};
-use crate::valued::{are_valued_first, are_valued_under};
+use crate::term_test::{TermTest, are_passed, term_tests};
+use crate::test::{may_all_hold, may_all_pass};
+use crate::valued::are_valued_first;
 use ground_names::Scope;
 use ground_sizes::count_bindings;
-use ppddl_model::{Action, Condition};
-use quantified_atoms::{AtomKind, QuantifiedAtom, atoms_of};
+use ppddl_model::Action;
+use quantified_atoms::{AtomKind, atoms_of};
 use std::alloc::{AllocError, Global};
 use task_facts::TaskFacts;
-
-/// Whether a condition is not known to be false.
-fn may_hold(known: Option<bool>) -> bool
-    ensures { result ≡ is_not_false known }
-{
-    match known {
-        Some(holds) => holds,
-        None => true,
-    }
-}
-
-/// Whether none of the conditions is known to be false.
-fn may_all_hold(
-    alloc: Global,
-    facts: &TaskFacts<'_>,
-    conditions: &[&Condition],
-    scope: &Scope<'_>,
-) -> Result<bool, AllocError>
-    ensures { IfOk result (λ may. may
-        ≡ may_all_hold facts.now (binding_of scope.now) (conditions_of conditions.now)) }
-{
-    for condition in conditions {
-        let known = facts.known(alloc, *condition, scope)?;
-        if !may_hold(known) {
-            return Ok(false);
-        }
-    }
-    Ok(true)
-}
 
 /// Puts the row of an instance, whose precondition may hold, behind the others, if the function terms have
 /// values.
@@ -57,9 +29,10 @@ fn add_row(
     alloc: Global,
     facts: &TaskFacts<'_>,
     action: &Action,
-    terms: &[QuantifiedAtom<'_>],
+    terms: &[TermTest<'_, '_>],
     scope: &Scope<'_>,
     row: &[u32],
+    buffer: &mut Vec<usize>,
     rows: &mut Rows,
 ) -> Result<(), AllocError>
     requires width { rows.old.width ≡ length action.now.params }
@@ -67,12 +40,13 @@ fn add_row(
     requires within { All (λ o. o < length (table_of facts.now).objects) row.now }
     requires bound { bound_to (table_of facts.now) action.now.params row.now []
         ≡ binding_of scope.now }
-    requires terms { DecideValues facts.now action.now terms.now }
+    requires terms { DecideValues facts.now action.now (terms_in terms.now) }
+    requires valued { All (IsTermTest facts.now action.now.params) terms.now }
     requires open { may_hold facts.now (binding_of scope.now) action.now.condition ≡ true }
     ensures { OnOk result (IsAdded facts.now action.now (binding_of scope.now ∷ [])
         rows.old rows.new) }
 {
-    let valued = are_valued_under(alloc, facts, terms, scope)?;
+    let valued = are_passed(alloc, facts, terms, scope, row, buffer)?;
     if valued {
         return rows.push(row);
     }
@@ -86,9 +60,10 @@ fn bind<'x>(
     facts: &'x TaskFacts<'_>,
     action: &Action,
     stages: &'x [Stage<'_>],
-    terms: &[QuantifiedAtom<'_>],
+    terms: &[TermTest<'_, '_>],
     scope: &'x Scope<'x>,
     row: &mut Vec<u32>,
+    buffer: &mut Vec<usize>,
     rows: &mut Rows,
 ) -> Result<(), AllocError>
     requires width { rows.old.width ≡ length action.now.params }
@@ -98,7 +73,9 @@ fn bind<'x>(
     requires bound { (rest : List ℕ)
         → bound_to (table_of facts.now) action.now.params (row.old.items ++ rest) []
         ≡ bound_to (table_of facts.now) (params_of stages.now) rest (binding_of scope.now) }
-    requires terms { DecideValues facts.now action.now terms.now }
+    requires terms { DecideValues facts.now action.now (terms_in terms.now) }
+    requires valued { All (IsTermTest facts.now action.now.params) terms.now }
+    requires prepared { ArePrepared facts.now action.now.params (length row.old.items) stages.now }
     requires left { IsLeft facts.now action.now.condition stages.now (binding_of scope.now) }
     ensures row { OnOk result (row.new.items ≡ row.old.items) }
     ensures rows { OnOk result (IsAdded facts.now action.now
@@ -112,6 +89,7 @@ fn bind<'x>(
             &*terms,
             &*scope,
             row.as_slice(),
+            buffer,
             rows,
         );
     }
@@ -123,11 +101,19 @@ fn bind<'x>(
             (&*facts).table().object_name(*object),
             &*scope,
         );
-        let may = may_all_hold(alloc, &*facts, stage.tests.as_slice(), &inside)?;
+        row.push(*object)?;
+        let may = may_all_pass(
+            alloc,
+            &*facts,
+            stage.tests.as_slice(),
+            &inside,
+            row.as_slice(),
+            &mut *buffer,
+        )?;
         if !may {
+            row.truncate(bound);
             continue;
         }
-        row.push(*object)?;
         bind(
             alloc,
             &*facts,
@@ -136,6 +122,7 @@ fn bind<'x>(
             &*terms,
             &inside,
             &mut *row,
+            &mut *buffer,
             &mut *rows,
         )?;
         row.truncate(bound);
@@ -167,15 +154,18 @@ pub fn kept_bindings(
     if !valued {
         return Ok(rows);
     }
+    let tests = term_tests(alloc, facts, params, terms.as_slice())?;
     let mut row = Vec::new(alloc);
+    let mut buffer = Vec::new(alloc);
     bind(
         alloc,
         facts,
         action,
         stages.as_slice(),
-        terms.as_slice(),
+        tests.as_slice(),
         &Scope::Empty,
         &mut row,
+        &mut buffer,
         &mut rows,
     )?;
     Ok(rows)

@@ -3,8 +3,11 @@
 #![tactic(auto)]
 
 mod binding;
+mod pattern;
 mod rows;
 mod stages;
+mod term_test;
+mod test;
 mod valued;
 mod variables;
 

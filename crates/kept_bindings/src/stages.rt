@@ -4,7 +4,9 @@ ghost use Rattle.std.specs.Prelude.{◌≡◌, ◌++◌, ◌∷◌, [], cond, no
 ghost use Rattle.task_facts.specs.Facts.{table_of};
 ghost use Rattle.kept_bindings.specs.Stages.{names_variable, conjuncts_of, conditions_of};
 ghost use Rattle.kept_bindings.specs.Stages.{AreStages};
+ghost use Rattle.kept_bindings.specs.Patterns.{ArePrepared};
 
+use crate::test::{Test, tests_of};
 use crate::variables::names_variable;
 use ground_sizes::objects_of;
 use plain_list::List;
@@ -18,7 +20,7 @@ use task_facts::TaskFacts;
 pub(crate) struct Stage<'a> {
     pub(crate) param: &'a Param,
     pub(crate) objects: List<u32>,
-    pub(crate) tests: Vec<&'a Condition>,
+    pub(crate) tests: Vec<Test<'a>>,
 }
 
 /// The parameters of an action in order, behind what is tested before any of them is bound.
@@ -120,8 +122,9 @@ pub(crate) fn stages_of<'a>(
     facts: &TaskFacts<'_>,
     action: &'a Action,
 ) -> Result<Stages<'a>, AllocError>
-    ensures { IfOk result (λ s. AreStages (table_of facts.now) action.now.params
+    ensures stages { IfOk result (λ s. AreStages (table_of facts.now) action.now.params
         (conjuncts_of action.now.condition) (conditions_of s.first.items) s.stages.items) }
+    ensures prepared { IfOk result (λ s. ArePrepared facts.now action.now.params 0 s.stages.items) }
 {
     let params = action.params.as_slice();
     let mut stages = Vec::new(alloc);
@@ -132,10 +135,11 @@ pub(crate) fn stages_of<'a>(
         let param = &params[place];
         let objects = objects_of(alloc, facts.table(), param)?;
         let Split { naming, others } = split_by(alloc, first.as_slice(), param.name.as_slice())?;
+        let tests = tests_of(alloc, facts, &params[..place + 1], naming.as_slice())?;
         stages.push(Stage {
             param,
             objects,
-            tests: naming,
+            tests,
         })?;
         first = others;
     }

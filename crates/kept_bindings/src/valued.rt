@@ -71,7 +71,7 @@ fn is_valued_first(
 }
 
 /// Whether a term that names a parameter of an action has all its values. Any other passes.
-fn is_valued_under(
+pub(crate) fn is_valued_under(
     alloc: Global,
     facts: &TaskFacts<'_>,
     term: &QuantifiedAtom<'_>,
@@ -95,24 +95,6 @@ pub(crate) fn are_valued_first(
 {
     for term in terms {
         if !is_valued_first(alloc, facts, term)? {
-            return Ok(false);
-        }
-    }
-    Ok(true)
-}
-
-/// Whether each of the terms that name a parameter of an action has all its values.
-pub(crate) fn are_valued_under(
-    alloc: Global,
-    facts: &TaskFacts<'_>,
-    terms: &[QuantifiedAtom<'_>],
-    scope: &Scope<'_>,
-) -> Result<bool, AllocError>
-    ensures { IfOk result (λ v. v
-        ≡ list_all (is_valued_under (world facts.now) (binding_of scope.now)) terms.now) }
-{
-    for term in terms {
-        if !is_valued_under(alloc, facts, term, scope)? {
             return Ok(false);
         }
     }

@@ -21,9 +21,10 @@ use Rattle.type_table.proofs.Lists.{by_test}
 use Rattle.ground_names.specs.Keys.{key_of}
 use Rattle.ground_names.proofs.Keying.{keys_tell}
 use Rattle.kept_instances.specs.Known.{facts_of, AreKeys}
-use Rattle.task_facts.specs.Adding.{with_names, fact_keys, value_key}
+use Rattle.numbered_atoms.specs.Adding.{with_names}
+use Rattle.task_facts.specs.Adding.{fact_keys, value_key}
 use Rattle.task_facts.specs.Facts.{AreValued}
-use Rattle.task_facts.proofs.Adding.{any-with_names}
+use Rattle.numbered_atoms.proofs.Adding.{any-with_names}
 
 or-false : (a : Bool) → (a || false) ≡ a
 or-false true = refl
@@ -60,7 +61,7 @@ facts_are_told items keys are = record {
 
 -- ---- function terms
 
-found_any : {X Y : Type 0} (f : X → Y) (p : X → Bool) (xs : List X) → is_some (option_map f (find p xs)) ≡ list_any p xs
+pub found_any : {X Y : Type 0} (f : X → Y) (p : X → Bool) (xs : List X) → is_some (option_map f (find p xs)) ≡ list_any p xs
 found_any f p [] = refl
 found_any f p (x ∷ xs) = by_test (p x)
     (λ e. rw e refl)

@@ -14,9 +14,11 @@ use Rattle.ppddl_model.specs.WellFormed.{IsWellFormed}
 use Rattle.type_table.specs.Types.{is_known}
 use Rattle.ground_sizes.specs.Typed.{IsTyped}
 use Rattle.ground_sizes.proofs.Forgetting.{made_is_typed}
-use Rattle.task_facts.specs.Adding.{with_names, fact_keys, value_key}
-use Rattle.task_facts.specs.Facts.{table_of, AreFactsOf}
-use Rattle.task_facts.proofs.Adding.{any-with_names}
+use Rattle.numbered_atoms.specs.Adding.{with_names}
+use Rattle.numbered_atoms.specs.Rows.{NumberedAtoms}
+use Rattle.task_facts.specs.Adding.{fact_keys, value_key}
+use Rattle.task_facts.specs.Facts.{table_of, AreFactRows, AreTermRows, AreFactsOf}
+use Rattle.numbered_atoms.proofs.Adding.{any-with_names}
 use Rattle.task_facts.proofs.Facts.{facts_are_told, values_are_told, objects_known}
 
 pub objects_have_types : (task : Task) → IsWellFormed task
@@ -30,10 +32,11 @@ each_has_type task types objects fit same are =
     ap (λ ts. list_all (is_known ts) objects) same ∙ ap (list_all (is_known task.domain.types)) are ∙ objects_have_types task fit
 
 pub found : (task : Task) (w : World) (names keys : List Name) (items : List InitItem) (terms : List Name) (values : List ValueItem)
-    → IsWellFormed task → w ≡ table_of task → names ≡ with_names [] (changing_predicates task) → items ≡ task.problem.init
+    (fact_rows term_rows : NumberedAtoms) → IsWellFormed task → w ≡ table_of task → names ≡ with_names [] (changing_predicates task) → items ≡ task.problem.init
     → keys ≡ with_names [] (flat_map fact_keys items) → values ≡ task.problem.values → terms ≡ with_names [] (map value_key values)
-    → AreFactsOf task w names keys items terms
-found task w names keys items terms values fit table changing init facts given valued = record {
+    → AreFactRows task fact_rows → AreTermRows task term_rows
+    → AreFactsOf task w names keys items terms fact_rows term_rows
+found task w names keys items terms values fact_rows term_rows fit table changing init facts given valued facts_put terms_put = record {
   table = table;
   typed = subst IsTyped (sym table)
       (made_is_typed task.domain.types (task.domain.constants ++ task.problem.objects) (objects_have_types task fit));
@@ -41,4 +44,6 @@ found task w names keys items terms values fit table changing init facts given v
   init = init;
   facts = facts_are_told items keys facts;
   valued = values_are_told task values terms valued given;
+  facts_by_row = facts_put;
+  terms_by_row = terms_put;
 }

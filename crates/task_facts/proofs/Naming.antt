@@ -14,7 +14,8 @@ use Rattle.ppddl_model.specs.declared.tree.InitItem.TheVariants as item
 use Rattle.ppddl_model.specs.declared.tree.Param.{Param}
 use Rattle.ppddl_model.specs.State.{Name}
 use Rattle.ppddl_model.specs.Changing.{predicates_of, predicates_each, predicates_branches, chance_predicates}
-use Rattle.task_facts.specs.Adding.{with_names, predicate_of, branch_predicates}
+use Rattle.numbered_atoms.specs.Adding.{with_names}
+use Rattle.task_facts.specs.Adding.{predicate_of, branch_predicates}
 
 abbrev pub branch_effect_predicates : Branch → List Name
 branch_effect_predicates branch = predicates_of branch.effect

@@ -1,7 +1,8 @@
 //! The keys of facts, and of function terms that have values.
 
 ghost use Rattle.std.specs.Prelude.{◌≡◌, [], flat_map, map, IfOk, OnOk};
-ghost use Rattle.task_facts.specs.Adding.{with_names, fact_keys, value_key};
+ghost use Rattle.numbered_atoms.specs.Adding.{with_names};
+ghost use Rattle.task_facts.specs.Adding.{fact_keys, value_key};
 
 use ground_names::{NameSet, Scope, atom_key};
 use ppddl_model::{InitItem, ValueItem};

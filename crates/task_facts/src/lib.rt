@@ -6,6 +6,7 @@ mod keys;
 mod laws;
 mod objects;
 mod predicates;
+mod rows;
 mod task_facts;
 
 pub use laws::fact_laws;

@@ -4,7 +4,8 @@ ghost use Rattle.std.specs.Prelude.{◌≡◌, [], flat_map, map, IfOk, OnOk};
 ghost use Rattle.ppddl_model.specs.declared.tree.Action.{Action};
 ghost use Rattle.ppddl_model.specs.declared.tree.InitBranch.{InitBranch};
 ghost use Rattle.ppddl_model.specs.Changing.{predicates_of, chance_predicates, changing_predicates};
-ghost use Rattle.task_facts.specs.Adding.{with_names, predicate_of, branch_predicates};
+ghost use Rattle.numbered_atoms.specs.Adding.{with_names};
+ghost use Rattle.task_facts.specs.Adding.{predicate_of, branch_predicates};
 
 use ground_names::NameSet;
 use ppddl_model::{Action, Atom, Effect, InitBranch, InitItem, Task};

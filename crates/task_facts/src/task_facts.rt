@@ -1,18 +1,25 @@
 //! What never changes in a task.
 
-ghost use Rattle.std.specs.Prelude.{◌≡◌, IfOk};
+ghost use Rattle.std.specs.Prelude.{◌≡◌, [], None, cond, flat_map, IfOk};
+ghost use Rattle.std.specs.List.{list_any};
+ghost use Rattle.ppddl_model.specs.State.{same_name};
 ghost use Rattle.ppddl_model.specs.Objects.{ground_atom};
 ghost use Rattle.ppddl_model.specs.Functions.{has_value};
 ghost use Rattle.ppddl_model.specs.Steps.{world};
-ghost use Rattle.ppddl_model.specs.Changing.{known_of};
+ghost use Rattle.ppddl_model.specs.Changing.{changing_predicates, known_of};
 ghost use Rattle.ppddl_model.specs.WellFormed.{IsWellFormed};
+ghost use Rattle.type_table.specs.Numbered.{number_of};
 ghost use Rattle.ground_names.specs.Scopes.{binding_of};
 ghost use Rattle.ground_sizes.specs.Typed.{IsTyped};
-ghost use Rattle.task_facts.specs.Facts.{table_of};
+ghost use Rattle.numbered_atoms.specs.Adding.{with_names};
+ghost use Rattle.task_facts.specs.Adding.{fact_keys};
+ghost use Rattle.task_facts.specs.Facts.{table_of, predicate_names, function_names};
+ghost use Rattle.task_facts.specs.Facts.{IsFactRow, fact_at, is_fact, IsTermRow, term_at};
 
 use crate::keys::{keys_of_facts, keys_of_values};
 use crate::objects::objects_of_task;
 use crate::predicates::changing_predicates;
+use crate::rows::{NumberedFacts, numbered_facts};
 use ground_names::{NameSet, Scope, atom_key};
 use kept_instances::{FirstFacts, known};
 use ppddl_model::{Atom, Condition, Task};
@@ -28,6 +35,7 @@ pub struct TaskFacts<'a> {
     table: TypeTable,
     facts: FirstFacts<'a>,
     valued: NameSet,
+    numbered: NumberedFacts,
 }
 
 impl<'a> Model for TaskFacts<'a> {
@@ -44,7 +52,7 @@ impl<'a> Model for TaskFacts<'a> {
     ghost view = { λ f. f.task.now };
 
     ghost invariant = { λ f. AreFactsOf f.task.now f.table f.facts.changing f.facts.keys
-        f.facts.init.now f.valued };
+        f.facts.init.now f.valued f.numbered.facts f.numbered.terms };
 }
 
 /// The types and objects of a task. It is refused for want of memory alone, since a well-formed task has
@@ -60,6 +68,22 @@ fn table(alloc: Global, task: &Task) -> Result<TypeTable, AllocError>
     }
 }
 
+/// What is known of atoms beforehand. It is refused for want of memory alone.
+fn first_facts<'a>(alloc: Global, task: &'a Task) -> Result<FirstFacts<'a>, AllocError>
+    ensures changing { IfOk result (λ f. f.changing ≡ with_names [] (changing_predicates task.now)) }
+    ensures init { IfOk result (λ f. f.init.now ≡ task.now.problem.init) }
+    ensures keys { IfOk result (λ f. f.keys ≡ with_names [] (flat_map fact_keys f.init.now)) }
+{
+    let changing = changing_predicates(alloc, task)?;
+    let init = task.problem.init.as_slice();
+    let keys = keys_of_facts(alloc, init)?;
+    Ok(FirstFacts {
+        changing,
+        init,
+        keys,
+    })
+}
+
 impl<'a> TaskFacts<'a> {
     /// What never changes in this task. It is refused for want of memory alone.
     pub fn make(alloc: Global, task: &'a Task) -> Result<TaskFacts<'a>, AllocError>
@@ -67,20 +91,15 @@ impl<'a> TaskFacts<'a> {
         ensures { IfOk result (λ facts. facts ≡ task.now) }
     {
         let table = table(alloc, task)?;
-        let changing = changing_predicates(alloc, task)?;
-        let init = task.problem.init.as_slice();
-        let keys = keys_of_facts(alloc, init)?;
+        let facts = first_facts(alloc, task)?;
         let valued = keys_of_values(alloc, task.problem.values.as_slice())?;
-        let facts = FirstFacts {
-            changing,
-            init,
-            keys,
-        };
+        let numbered = numbered_facts(alloc, &table, task)?;
         Ok(TaskFacts {
             task,
             table,
             facts,
             valued,
+            numbered,
         })
     }
 
@@ -123,5 +142,38 @@ impl<'a> TaskFacts<'a> {
     {
         let key = atom_key(alloc, scope, term)?;
         Ok(self.valued.has(key.as_slice()))
+    }
+    /// The number of a predicate that no step changes, None where it may change.
+    pub fn fact_number(&self, predicate: &[u8]) -> Option<usize>
+        ensures { result ≡ cond (list_any (same_name predicate.now) (changing_predicates self.now))
+            None (number_of (predicate_names self.now) predicate.now) }
+    {
+        if self.facts.changing.has(predicate) {
+            return None;
+        }
+        self.numbered.facts.number_of(predicate)
+    }
+
+    /// Whether the ground atom of a row of numbers is a fact of `:init`.
+    pub fn is_fact(&self, row: &[usize]) -> bool
+        requires { IsFactRow self.now row.now }
+        ensures { result ≡ is_fact self.now (fact_at self.now row.now) }
+    {
+        self.numbered.facts.has(row)
+    }
+
+    /// The number of a function.
+    pub fn function_number(&self, function: &[u8]) -> Option<usize>
+        ensures { result ≡ number_of (function_names self.now) function.now }
+    {
+        self.numbered.terms.number_of(function)
+    }
+
+    /// Whether the function term of a row of numbers has a value.
+    pub fn is_valued(&self, row: &[usize]) -> bool
+        requires { IsTermRow self.now row.now }
+        ensures { result ≡ has_value (world self.now) (term_at self.now row.now) }
+    {
+        self.numbered.terms.has(row)
     }
 }

@@ -1,4 +1,4 @@
-use Rattle.std.proofs.Common.{◌≡◌, ℕ, List, true, false, true≢false, ◌-◌, ◌<◌, ◌≤◌, [], ◌∷◌, ◌++◌, length, map, filter, take, drop, get_or, append-nil, refl, sym, ap, subst, ◌∙◌, arith, length-drop}
+use Rattle.std.proofs.Common.{◌≡◌, ℕ, suc, List, true, false, true≢false, ◌-◌, ◌<◌, ◌≤◌, [], ◌∷◌, ◌++◌, length, map, filter, take, drop, get_or, append-nil, refl, sym, ap, subst, ◌∙◌, arith, length-drop}
 use Rattle.std.specs.Prelude.{◌==◌, All, flat_map, OnOk}
 use Rattle.std.proofs.lemmas.Bool.{eqb-true}
 use Rattle.std.proofs.lemmas.List.Elements.{All-head, All-get_or}
@@ -9,9 +9,11 @@ use Rattle.ground_names.specs.Scopes.{binding_of}
 use Rattle.task_facts.specs.Facts.{table_of}
 use Rattle.kept_bindings.specs.declared.stages.Stage.{Stage}
 use Rattle.kept_bindings.specs.Kept.{bound_to, is_kept_under, IsAdded}
-use Rattle.kept_bindings.specs.Stages.{conditions_of, may_all_hold, tests_of, params_of, HasRange, IsLeft}
-use Rattle.kept_bindings.proofs.BindSteps.{ways_with, all_ways, way_more, way_all, added_both, nothing_added, bound_none, cons_is, tail_is, end_long, same_scope, next_bound, next_rest, next_long, next_within, shorter_again}
+use Rattle.kept_bindings.specs.Stages.{may_all_hold, tests_of, params_of, HasRange, IsLeft}
+use Rattle.kept_bindings.specs.Patterns.{conditions_in, TestStands, ArePrepared}
+use Rattle.kept_bindings.proofs.BindSteps.{ways_with, all_ways, way_more, way_all, added_both, nothing_added, bound_none, cons_is, tail_is, end_long, pushed_suc, bound_there, same_scope, next_bound, next_rest, next_long, next_within, shorter_again}
 use Rattle.kept_bindings.proofs.Staging.{open_at_end, way_at_end, still_left, none_left}
+use Rattle.kept_bindings.proofs.Testing.{tests_stand}
 use Rattle.kept_bindings.proofs.binding.+bind.Goals as goal
 
 pub add_row-requires-clause-long : goal.add_row-requires-clause-long
@@ -63,7 +65,7 @@ bind-requires t c =
     = ap (λ l. (stage.param.now.name, object_at table (get_or l i 0)) ∷ b) (sym listed)
     ∙ same_scope table params (params_of (drop 1 stages)) stage.param.now o row (row ++ o ∷ []) b name object refl named at in
     let tested : c.in_ok-may.may ≡ may_all_hold task ((name, object) ∷ b) (tests_of stage)
-    = c.in_ok-may.ensures ∙ ap (λ l. may_all_hold task ((name, object) ∷ b) (conditions_of l)) c.as_slice-in-loop-object-2.ensures.value in
+    = c.in_ok-may.ensures ∙ ap (λ l. may_all_hold task ((name, object) ∷ b) (conditions_in l)) c.as_slice-in-loop-object-2.ensures.value in
     let ways = ways_with table (world task) (params_of (drop 1 stages)) stage.param.now b in
     let pushed = c.push.new.self.items in
     let behind : take (length stages - 1) (drop 1 stages) ≡ drop 1 stages = tail_is stages in
@@ -84,9 +86,54 @@ bind-requires t c =
     next_bound table params (params_of (drop 1 stages)) stage.param.now o row pushed b name object put named at
     (λ r. c.requires.bound r ∙ ap (λ l. bound_to table (params_of l) r b) split) more
     ∙ ap (λ l. bound_to table (params_of l) more ((name, object) ∷ b)) (sym behind) in
+    let prepared = subst (λ l. ArePrepared task params (length pushed) l) (sym behind)
+    (subst (λ k. ArePrepared task params k (drop 1 stages)) (sym (pushed_suc row pushed o put))
+    (subst (λ l. ArePrepared task params (length row) l) split c.requires.prepared).1) in
     let left = subst (λ l. IsLeft task action.condition l ((name, object) ∷ b)) (sym behind)
     (still_left task action stage (drop 1 stages) b ((name, object) ∷ b) i within is before may) in
-    (less, (width, (rest, (long, (inside, (bound, (c.requires.terms, left)))))))
+    (less, (width, (rest, (long, (inside, (bound, (c.requires.terms, (c.requires.valued, (prepared, left)))))))))
+
+pub may_all_pass-requires : goal.may_all_pass-requires
+may_all_pass-requires t c =
+    let task = c.args.facts.now in
+    let table = table_of task in
+    let action = c.args.action.now in
+    let params = action.params in
+    let stages = c.args.stages.now in
+    let stage : Stage = c.index-stages-0.result in
+    let items = c.as_slice-object-items.result.now in
+    let i = c.loop-object.object-index in
+    let o : ℕ = get_or items i 0 in
+    let row = c.args.row.now.items in
+    let b = binding_of c.args.scope.now in
+    let name = c.as_slice-in-loop-object.result.now in
+    let object = c.object_name.result.now in
+    let some : length stages ≡ 0 → ⊥ = λ none. true≢false (sym (ap (λ k. k == 0) none) ∙ sym c.is_empty.ensures ∙ c.if-is_empty.false) in
+    let split : stages ≡ stage ∷ drop 1 stages = cons_is stages stage some c.index-stages-0.is in
+    let before : IsLeft task action.condition (stage ∷ drop 1 stages) b = subst (λ l. IsLeft task action.condition l b) split c.requires.left in
+    let listed : items ≡ stage.objects = c.as_slice-object-items.ensures in
+    let within : i < length stage.objects = subst (λ l. i < length l) listed c.loop-object-test.true in
+    let named : name ≡ stage.param.now.name = c.as_slice-in-loop-object.ensures in
+    let at : object ≡ object_at table o
+    = c.object_name.ensures.name ∙ ap (λ (v : World). object_at v o) c.table.ensures.table in
+    let is : (stage.param.now.name, object_at table (get_or stage.objects i 0)) ∷ b ≡ (name, object) ∷ b
+    = ap (λ l. (stage.param.now.name, object_at table (get_or l i 0)) ∷ b) (sym listed)
+    ∙ same_scope table params (params_of (drop 1 stages)) stage.param.now o row (row ++ o ∷ []) b name object refl named at in
+    let pushed = c.push.new.self.items in
+    let put : pushed ≡ row ++ o ∷ [] = c.in_ok-push.ensures.items ∙ ap (λ l. l ++ o ∷ []) c.loop-object.invariant.row in
+    let are : stage.param.now ∷ params_of (drop 1 stages) ≡ drop (length row) params = ap params_of (sym split) ∙ c.requires.rest in
+    let here : o < length table.objects
+    = All-get_or (λ q. q < length table.objects) items i 0 c.loop-object-test.true
+    (subst (All (λ q. q < length table.objects)) (sym listed) (All-head (HasRange table) stage (drop 1 stages) before.ranges).within) in
+    let long = next_long table params (params_of (drop 1 stages)) stage.param.now o row pushed b name object put named at are in
+    let inside = next_within table params (params_of (drop 1 stages)) stage.param.now o row pushed b name object put named at c.requires.within here in
+    let bound = bound_there table params (params_of (drop 1 stages)) stage.param.now o row pushed b name object put named at
+    (λ r. c.requires.bound r ∙ ap (λ l. bound_to table (params_of l) r b) split) in
+    let tests = (subst (λ l. ArePrepared task params (length row) l) split c.requires.prepared).0 in
+    let size = pushed_suc row pushed o put in
+    subst (λ l. All (TestStands task c.as_slice-in-loop-object-3.result.now ((name, object) ∷ b)) l) (sym c.as_slice-in-loop-object-2.ensures.value)
+    (subst (λ r. All (TestStands task r ((name, object) ∷ b)) stage.tests.items) (sym c.as_slice-in-loop-object-3.ensures.value)
+    (tests_stand task params pushed ((name, object) ∷ b) (suc (length row)) stage.tests.items tests size (omega (arith, long, size)) inside bound))
 
 pub loop-object-preserved-then-not-may : goal.loop-object-preserved-then-not-may
 loop-object-preserved-then-not-may t c =
@@ -115,11 +162,14 @@ loop-object-preserved-then-not-may t c =
     = ap (λ l. (stage.param.now.name, object_at table (get_or l i 0)) ∷ b) (sym listed)
     ∙ same_scope table params (params_of (drop 1 stages)) stage.param.now o row (row ++ o ∷ []) b name object refl named at in
     let tested : c.in_ok-may.may ≡ may_all_hold task ((name, object) ∷ b) (tests_of stage)
-    = c.in_ok-may.ensures ∙ ap (λ l. may_all_hold task ((name, object) ∷ b) (conditions_of l)) c.as_slice-in-loop-object-2.ensures.value in
+    = c.in_ok-may.ensures ∙ ap (λ l. may_all_hold task ((name, object) ∷ b) (conditions_in l)) c.as_slice-in-loop-object-2.ensures.value in
     let ways = ways_with table (world task) (params_of (drop 1 stages)) stage.param.now b in
     let may : may_all_hold task ((name, object) ∷ b) (tests_of stage) ≡ false = sym tested ∙ c.if-not-may.true in
+    let pushed = c.push.new.self.items in
+    let put : pushed ≡ row ++ o ∷ [] = c.in_ok-push.ensures.items ∙ ap (λ l. l ++ o ∷ []) c.loop-object.invariant.row in
+    let counted : c.len-bound.result ≡ length row = omega (arith, c.len-bound.ensures, c.args.row.now.ok.0) in
     record {
-      row = c.loop-object.invariant.row;
+      row = c.truncate.ensures.items ∙ shorter_again table params (params_of (drop 1 stages)) stage.param.now o row pushed b name object put named at c.len-bound.result pushed counted refl;
       rows =
           subst (λ bs. IsAdded task action bs c.args.rows.now c.loop-object.rows) (sym (way_more ways items i c.loop-object-test.true))
           (added_both task action (flat_map ways (take i items)) (ways o) c.args.rows.now c.loop-object.rows c.loop-object.rows
@@ -157,7 +207,7 @@ loop-object-preserved t c =
     = ap (λ l. (stage.param.now.name, object_at table (get_or l i 0)) ∷ b) (sym listed)
     ∙ same_scope table params (params_of (drop 1 stages)) stage.param.now o row (row ++ o ∷ []) b name object refl named at in
     let tested : c.in_ok-may.may ≡ may_all_hold task ((name, object) ∷ b) (tests_of stage)
-    = c.in_ok-may.ensures ∙ ap (λ l. may_all_hold task ((name, object) ∷ b) (conditions_of l)) c.as_slice-in-loop-object-2.ensures.value in
+    = c.in_ok-may.ensures ∙ ap (λ l. may_all_hold task ((name, object) ∷ b) (conditions_in l)) c.as_slice-in-loop-object-2.ensures.value in
     let ways = ways_with table (world task) (params_of (drop 1 stages)) stage.param.now b in
     let pushed = c.push.new.self.items in
     let behind : take (length stages - 1) (drop 1 stages) ≡ drop 1 stages = tail_is stages in
@@ -165,7 +215,7 @@ loop-object-preserved t c =
     let are : stage.param.now ∷ params_of (drop 1 stages) ≡ drop (length row) params = ap params_of (sym split) ∙ c.requires.rest in
     let counted : c.len-bound.result ≡ length row = omega (arith, c.len-bound.ensures, c.args.row.now.ok.0) in
     record {
-      row = c.truncate.ensures.items ∙ shorter_again table params (params_of (drop 1 stages)) stage.param.now o row pushed b name object put named at c.len-bound.result c.bind.new.row.items counted c.in_ok-bind.ensures.row;
+      row = c.truncate-in-loop-object.ensures.items ∙ shorter_again table params (params_of (drop 1 stages)) stage.param.now o row pushed b name object put named at c.len-bound.result c.bind.new.row.items counted c.in_ok-bind.ensures.row;
       rows =
           subst (λ bs. IsAdded task action bs c.args.rows.now c.bind.new.rows) (sym (way_more ways items i c.loop-object-test.true))
           (added_both task action (flat_map ways (take i items)) (ways o) c.args.rows.now c.loop-object.rows c.bind.new.rows

@@ -4,6 +4,7 @@ use Rattle.ground_names.specs.Scopes.{binding_of}
 use Rattle.kept_bindings.specs.Rows.{with_row}
 use Rattle.kept_bindings.specs.Kept.{IsAdded}
 use Rattle.kept_bindings.proofs.BindSteps.{row_added, row_left, kept_where}
+use Rattle.kept_bindings.proofs.Testing.{terms_stand}
 use Rattle.kept_bindings.proofs.binding.add_row.Goals as goal
 
 pub returns-then-valued : goal.returns-then-valued
@@ -20,3 +21,8 @@ returns c =
     let b = binding_of c.args.scope.now in
     row_left c.args.facts.now c.args.action.now b c.args.rows.now
     (sym (kept_where c.args.facts.now c.args.action.now b c.in_ok-valued.valued (c.in_ok-valued.ensures ∙ c.requires.terms b) c.requires.open) ∙ c.if-valued.false)
+
+pub are_passed-requires : goal.are_passed-requires
+are_passed-requires c =
+    terms_stand c.args.facts.now c.args.action.now.params c.args.row.now (binding_of c.args.scope.now) c.args.terms.now c.requires.valued
+    c.requires.long c.requires.within c.requires.bound

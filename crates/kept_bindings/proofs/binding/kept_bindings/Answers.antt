@@ -9,6 +9,7 @@ use Rattle.kept_bindings.specs.Rows.{Table}
 use Rattle.kept_bindings.specs.Kept.{is_kept_under, IsAdded}
 use Rattle.kept_bindings.specs.Terms.{is_valued_first, is_valued_under}
 use Rattle.kept_bindings.specs.Stages.{conditions_of, may_all_hold, params_of, IsLeft}
+use Rattle.kept_bindings.specs.Patterns.{terms_in}
 use Rattle.kept_bindings.proofs.BindSteps.{all_added, none_kept}
 use Rattle.kept_bindings.proofs.Valuing.{first_passed, first_failed, none_valued}
 use Rattle.kept_bindings.proofs.Staging.{first_left, first_none}
@@ -32,7 +33,7 @@ returns-then-not-may c =
     let may : may_all_hold task [] first ≡ false
     = sym (c.in_ok-may.ensures ∙ ap (λ l. may_all_hold task [] (conditions_of l)) c.as_slice.ensures.value) ∙ c.if-not-may.true in
     none_kept task action c.new-rows.result (ap (λ (t : Table). t.rows) c.new-rows.ensures)
-    (first_none task action first c.in_ok-first.field-0.stages.items c.in_ok-first.ensures may)
+    (first_none task action first c.in_ok-first.field-0.stages.items c.in_ok-first.ensures.stages may)
 
 pub bind-requires-clause-left : goal.bind-requires-clause-left
 bind-requires-clause-left c =
@@ -41,8 +42,8 @@ bind-requires-clause-left c =
     let first = conditions_of c.in_ok-first.field-0.first.items in
     let may : may_all_hold task [] first ≡ true
     = sym (c.in_ok-may.ensures ∙ ap (λ l. may_all_hold task [] (conditions_of l)) c.as_slice.ensures.value) ∙ c.if-not-may.false in
-    subst (λ l. IsLeft task action.condition l []) (sym c.as_slice-3.ensures.value)
-    (first_left task action first c.in_ok-first.field-0.stages.items c.in_ok-first.ensures may)
+    subst (λ l. IsLeft task action.condition l []) (sym c.as_slice-4.ensures.value)
+    (first_left task action first c.in_ok-first.field-0.stages.items c.in_ok-first.ensures.stages may)
 
 pub returns : goal.returns
 returns c =
@@ -50,7 +51,7 @@ returns c =
     let action = c.args.action.now in
     all_added task action c.new-rows.result c.bind.new.rows (ap (λ (t : Table). t.rows) c.new-rows.ensures)
     (subst (λ l. IsAdded task action (bindings (world task) l []) c.new-rows.result c.bind.new.rows)
-    (ap params_of c.as_slice-3.ensures.value ∙ c.in_ok-first.ensures.params)
+    (ap params_of c.as_slice-4.ensures.value ∙ c.in_ok-first.ensures.stages.params)
     c.in_ok-bind.ensures.rows)
 
 pub returns-then-not-valued : goal.returns-then-not-valued
@@ -65,6 +66,7 @@ returns-then-not-valued c =
 pub bind-requires-clause-terms : goal.bind-requires-clause-terms
 bind-requires-clause-terms c = λ b.
     let w = world c.args.facts.now in
-    ap (list_all (is_valued_under w b)) c.as_slice-4.ensures.value
+    ap (λ l. list_all (is_valued_under w b) (terms_in l)) c.as_slice-5.ensures.value
+    ∙ ap (list_all (is_valued_under w b)) (c.in_ok-tests.ensures.terms ∙ c.as_slice-3.ensures.value)
     ∙ first_passed w c.args.action.now.effect c.in_ok-terms.terms.items c.in_ok-terms.ensures
     (sym (c.in_ok-valued.ensures ∙ ap (list_all (is_valued_first w)) c.as_slice-2.ensures.value) ∙ c.if-not-valued.false) b

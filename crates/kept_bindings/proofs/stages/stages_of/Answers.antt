@@ -1,10 +1,12 @@
-use Rattle.std.proofs.Common.{◌≡◌, ℕ, ◌≤◌, not, filter, length, drop, reverse, refl, sym, ap, subst, ◌∙◌, arith}
+use Rattle.std.proofs.Common.{◌≡◌, ℕ, ◌+◌, ◌-◌, ◌≤◌, not, filter, length, take, drop, reverse, refl, sym, ap, subst, ◌∙◌, arith}
 use Rattle.std.proofs.lemmas.List.{drop_all}
 use Rattle.ppddl_model.specs.declared.tree.Param.{Param}
 use Rattle.ppddl_model.specs.Objects.{World}
 use Rattle.task_facts.specs.Facts.{table_of}
 use Rattle.kept_bindings.specs.Stages.{names_variable, conjuncts_of, conditions_of, AreStages, IsRange}
+use Rattle.kept_bindings.specs.Patterns.{ArePrepared}
 use Rattle.kept_bindings.proofs.Staging.{made_first, next_made}
+use Rattle.kept_bindings.proofs.Testing.{next_prepared}
 use Rattle.kept_bindings.proofs.stages.stages_of.Goals as goal
 
 pub loop-place-init : goal.loop-place-init
@@ -18,6 +20,7 @@ loop-place-init c =
       made =
           subst (λ l. AreStages table (drop (length params) params) parts first (reverse l)) (sym c.new-stages.ensures.items)
           (made_first table parts (drop (length params) params) first (drop_all (length params) params (omega arith)) c.in_ok-first.ensures);
+      prepared = subst (λ l. ArePrepared c.args.facts.now c.args.action.now.params (length params) (reverse l)) (sym c.new-stages.ensures.items) tt;
     }
 
 pub loop-place-preserved : goal.loop-place-preserved
@@ -31,6 +34,7 @@ loop-place-preserved c =
     let place : ℕ = c.loop-place.place in
     let p : Param = c.index-params-place.result in
     let within : place ≤ length params = c.loop-place.invariant.within in
+    let again : place - 1 + 1 ≡ place = omega arith in
     let objects = c.in_ok-objects.objects in
     let range : IsRange table objects p
     = subst (λ (w : World). IsRange w objects p) c.table.ensures.table
@@ -40,14 +44,17 @@ loop-place-preserved c =
       made =
           next_made table parts params place p _ first others stages c.push.new.self.items (omega arith) within c.index-params-place.is
           c.in_ok-push.ensures.items refl range
-          (c.in_ok-naming.ensures.naming ∙ (λ i. filter (names_variable (c.as_slice-in-loop-place.ensures i)) (conditions_of (c.as_slice.ensures.value i))))
+          (c.in_ok-tests.ensures.conditions ∙ ap conditions_of c.as_slice-in-loop-place-2.ensures.value ∙ c.in_ok-naming.ensures.naming ∙ (λ i. filter (names_variable (c.as_slice-in-loop-place.ensures i)) (conditions_of (c.as_slice.ensures.value i))))
           (c.in_ok-naming.ensures.others
           ∙ (λ i. filter (λ x. not (names_variable (c.as_slice-in-loop-place.ensures i) x)) (conditions_of (c.as_slice.ensures.value i))))
           c.loop-place.invariant.made;
+      prepared =
+          next_prepared c.args.facts.now c.args.action.now.params _ place _ stages c.push.new.self.items (omega arith) c.in_ok-push.ensures.items
+          (ap (λ k. take k params) again ∙ ap (take place) c.as_slice-params.ensures) c.in_ok-tests.ensures.tests c.loop-place.invariant.prepared;
     }
 
-pub returns : goal.returns
-returns c =
+pub returns-clause-stages : goal.returns-clause-stages
+returns-clause-stages c =
     let table = table_of c.args.facts.now in
     let params = c.as_slice-params.result.now in
     let parts = conjuncts_of c.args.action.now.condition in
@@ -56,3 +63,9 @@ returns c =
     let none : c.loop-place.place ≡ 0 = omega arith in
     subst (λ l. AreStages table l parts first c.reverse.new.self.items) (ap (λ k. drop k params) none ∙ c.as_slice-params.ensures)
     (subst (AreStages table (drop c.loop-place.place params) parts first) (sym c.reverse.ensures.items) c.loop-place.invariant.made)
+
+pub returns-clause-prepared : goal.returns-clause-prepared
+returns-clause-prepared c =
+    let none : c.loop-place.place ≡ 0 = omega arith in
+    subst (λ k. ArePrepared c.args.facts.now c.args.action.now.params k c.reverse.new.self.items) none
+    (subst (ArePrepared c.args.facts.now c.args.action.now.params c.loop-place.place) (sym c.reverse.ensures.items) c.loop-place.invariant.prepared)

@@ -1,6 +1,7 @@
 use Rattle.std.proofs.Common.{◌≤◌, length, drop, reverse}
 use Rattle.task_facts.specs.Facts.{table_of}
 use Rattle.kept_bindings.specs.Stages.{conjuncts_of, conditions_of, AreStages}
+use Rattle.kept_bindings.specs.Patterns.{ArePrepared}
 use Rattle.kept_bindings.proofs.stages.stages_of.Given as goal
 
 abbrev pub decreases-loop-place : goal.decreases-loop-place
@@ -10,4 +11,5 @@ abbrev pub invariant-loop-place : goal.invariant-loop-place
 invariant-loop-place l = record {
   within : l.place ≤ length l.params;
   made : AreStages (table_of l.facts) (drop l.place l.params) (conjuncts_of l.action.condition) (conditions_of l.first.items) (reverse l.stages.items);
+  prepared : ArePrepared l.facts l.action.params l.place (reverse l.stages.items);
 }

@@ -1,5 +1,6 @@
 use Rattle.std.proofs.Common.{◌≡◌, [], flat_map, drop}
-use Rattle.task_facts.specs.Adding.{with_names, fact_keys}
+use Rattle.numbered_atoms.specs.Adding.{with_names}
+use Rattle.task_facts.specs.Adding.{fact_keys}
 use Rattle.task_facts.proofs.keys.keys_of_facts.Given as goal
 
 abbrev pub invariant-loop-item : goal.invariant-loop-item

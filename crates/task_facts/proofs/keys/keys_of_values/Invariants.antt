@@ -1,5 +1,6 @@
 use Rattle.std.proofs.Common.{◌≡◌, [], map, drop}
-use Rattle.task_facts.specs.Adding.{with_names, value_key}
+use Rattle.numbered_atoms.specs.Adding.{with_names}
+use Rattle.task_facts.specs.Adding.{value_key}
 use Rattle.task_facts.proofs.keys.keys_of_values.Given as goal
 
 abbrev pub invariant-loop-item : goal.invariant-loop-item

@@ -1,7 +1,7 @@
 use Rattle.std.proofs.Common.{ap, ◌∙◌}
 use Rattle.ppddl_model.specs.Changing.{predicates_of}
-use Rattle.task_facts.specs.Adding.{with_names}
-use Rattle.task_facts.proofs.Adding.{names_more}
+use Rattle.numbered_atoms.specs.Adding.{with_names}
+use Rattle.numbered_atoms.proofs.Adding.{names_more}
 use Rattle.task_facts.proofs.Naming.{branch_effect_predicates, begun-Both, begun-Chance, names-Forall, names-When}
 use Rattle.task_facts.proofs.predicates.+add_predicates.Goals as goal
 

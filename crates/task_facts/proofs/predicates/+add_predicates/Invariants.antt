@@ -1,6 +1,6 @@
 use Rattle.std.proofs.Common.{◌≡◌, flat_map, drop}
 use Rattle.ppddl_model.specs.Changing.{predicates_of}
-use Rattle.task_facts.specs.Adding.{with_names}
+use Rattle.numbered_atoms.specs.Adding.{with_names}
 use Rattle.task_facts.proofs.Naming.{branch_effect_predicates}
 use Rattle.task_facts.proofs.predicates.+add_predicates.Given as goal
 

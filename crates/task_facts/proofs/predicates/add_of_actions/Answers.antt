@@ -1,6 +1,6 @@
 use Rattle.ppddl_model.specs.declared.tree.Action.{Action}
 use Rattle.ppddl_model.specs.Changing.{predicates_of}
-use Rattle.task_facts.proofs.Adding.{names_more}
+use Rattle.numbered_atoms.proofs.Adding.{names_more}
 use Rattle.task_facts.proofs.predicates.add_of_actions.Goals as goal
 
 pub loop-action-preserved : goal.loop-action-preserved

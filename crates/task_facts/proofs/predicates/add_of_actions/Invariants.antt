@@ -1,7 +1,7 @@
 use Rattle.std.proofs.Common.{◌≡◌, flat_map, drop}
 use Rattle.ppddl_model.specs.declared.tree.Action.{Action}
 use Rattle.ppddl_model.specs.Changing.{predicates_of}
-use Rattle.task_facts.specs.Adding.{with_names}
+use Rattle.numbered_atoms.specs.Adding.{with_names}
 use Rattle.task_facts.proofs.predicates.add_of_actions.Given as goal
 
 abbrev pub invariant-loop-action : goal.invariant-loop-action

@@ -1,5 +1,6 @@
 use Rattle.std.proofs.Common.{◌≡◌, map, drop}
-use Rattle.task_facts.specs.Adding.{with_names, predicate_of}
+use Rattle.numbered_atoms.specs.Adding.{with_names}
+use Rattle.task_facts.specs.Adding.{predicate_of}
 use Rattle.task_facts.proofs.predicates.add_of_atoms.Given as goal
 
 abbrev pub invariant-loop-atom : goal.invariant-loop-atom

@@ -1,6 +1,7 @@
 use Rattle.std.proofs.Common.{map, ap, ◌∙◌}
-use Rattle.task_facts.specs.Adding.{with_names, predicate_of, branch_predicates}
-use Rattle.task_facts.proofs.Adding.{names_more}
+use Rattle.numbered_atoms.specs.Adding.{with_names}
+use Rattle.task_facts.specs.Adding.{predicate_of, branch_predicates}
+use Rattle.numbered_atoms.proofs.Adding.{names_more}
 use Rattle.task_facts.proofs.predicates.add_of_branches.Goals as goal
 
 pub loop-branch-preserved : goal.loop-branch-preserved

@@ -1,5 +1,6 @@
 use Rattle.std.proofs.Common.{◌≡◌, flat_map, drop}
-use Rattle.task_facts.specs.Adding.{with_names, branch_predicates}
+use Rattle.numbered_atoms.specs.Adding.{with_names}
+use Rattle.task_facts.specs.Adding.{branch_predicates}
 use Rattle.task_facts.proofs.predicates.add_of_branches.Given as goal
 
 abbrev pub invariant-loop-branch : goal.invariant-loop-branch

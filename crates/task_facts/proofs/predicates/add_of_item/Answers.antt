@@ -1,7 +1,8 @@
 use Rattle.std.proofs.Common.{flat_map, sym, ap, ◌∙◌}
 use Rattle.std.proofs.lemmas.Result.{IfOk-equal}
 use Rattle.ppddl_model.specs.Changing.{chance_predicates}
-use Rattle.task_facts.specs.Adding.{with_names, branch_predicates}
+use Rattle.numbered_atoms.specs.Adding.{with_names}
+use Rattle.task_facts.specs.Adding.{branch_predicates}
 use Rattle.task_facts.proofs.Naming.{of_branches}
 use Rattle.task_facts.proofs.predicates.add_of_item.Goals as goal
 

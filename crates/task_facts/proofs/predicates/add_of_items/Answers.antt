@@ -1,5 +1,5 @@
 use Rattle.ppddl_model.specs.Changing.{chance_predicates}
-use Rattle.task_facts.proofs.Adding.{names_more}
+use Rattle.numbered_atoms.proofs.Adding.{names_more}
 use Rattle.task_facts.proofs.predicates.add_of_items.Goals as goal
 
 pub loop-item-preserved : goal.loop-item-preserved

@@ -1,6 +1,6 @@
 use Rattle.std.proofs.Common.{◌≡◌, flat_map, drop}
 use Rattle.ppddl_model.specs.Changing.{chance_predicates}
-use Rattle.task_facts.specs.Adding.{with_names}
+use Rattle.numbered_atoms.specs.Adding.{with_names}
 use Rattle.task_facts.proofs.predicates.add_of_items.Given as goal
 
 abbrev pub invariant-loop-item : goal.invariant-loop-item

@@ -2,8 +2,8 @@ use Rattle.std.proofs.Common.{◌≡◌, List, [], flat_map, sym, ap, ◌∙◌}
 use Rattle.ppddl_model.specs.declared.tree.Action.{Action}
 use Rattle.ppddl_model.specs.State.{Name}
 use Rattle.ppddl_model.specs.Changing.{predicates_of, chance_predicates}
-use Rattle.task_facts.specs.Adding.{with_names}
-use Rattle.task_facts.proofs.Adding.{names-append}
+use Rattle.numbered_atoms.specs.Adding.{with_names}
+use Rattle.numbered_atoms.proofs.Adding.{names-append}
 use Rattle.task_facts.proofs.predicates.changing_predicates.Goals as goal
 
 pub returns : goal.returns

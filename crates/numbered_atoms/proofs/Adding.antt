@@ -7,7 +7,7 @@ use Rattle.ppddl_model.specs.State.{Name, same_name}
 use Rattle.ppddl_model.proofs.States.{or_assoc, same_name-Decides}
 use Rattle.type_table.specs.Numbered.{with_name}
 use Rattle.type_table.proofs.Lists.{by_test}
-use Rattle.task_facts.specs.Adding.{with_names}
+use Rattle.numbered_atoms.specs.Adding.{with_names}
 
 pub names-append : (names xs ys : List Name) → with_names names (xs ++ ys) ≡ with_names (with_names names xs) ys
 names-append names [] ys = refl
