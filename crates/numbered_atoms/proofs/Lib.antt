@@ -1,3 +1,4 @@
 pub mod Adding
 pub mod Telling
+mod Marking
 mod RowSteps

@@ -1,3 +1,4 @@
 pub mod Adding
+pub mod Marks
 pub mod Rows
 pub mod Laws

@@ -67,7 +67,7 @@ impl AtomRows {
         }
         Ok(AtomRows {
             names,
-            rows: RowSet::new(alloc),
+            rows: RowSet::new(alloc)?,
         })
     }
 
