@@ -1,7 +1,6 @@
 //! Parts of a precondition, which are tested as soon as their parameters are bound.
 
 ghost use Rattle.std.specs.Prelude.{◌≡◌, All, IfOk, IfSome};
-ghost use Rattle.std.specs.List.{list_all};
 ghost use Rattle.ppddl_model.specs.Known.{is_not_false};
 ghost use Rattle.ground_names.specs.Scopes.{binding_of};
 ghost use Rattle.kept_bindings.specs.Patterns.{IsFactPattern, IsTest, TestStands, conditions_in};
