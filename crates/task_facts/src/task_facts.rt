@@ -143,6 +143,7 @@ impl<'a> TaskFacts<'a> {
         let key = atom_key(alloc, scope, term)?;
         Ok(self.valued.has(key.as_slice()))
     }
+
     /// The number of a predicate that no step changes, None where it may change.
     pub fn fact_number(&self, predicate: &[u8]) -> Option<usize>
         ensures { result ≡ cond (list_any (same_name predicate.now) (changing_predicates self.now))
