@@ -233,42 +233,38 @@ module _ (b : Board) (l : Knowledge) (s : State) (t : Transitions) (row : KeptRo
     pub action_is_kept : IsKeptAction l.view s t.ids a own
     action_is_kept = subst (λ x. IsKeptAction l.view s t.ids x own) own_action own_is_kept.kept
 
-abbrev pub first_kept : KeptAction
-first_kept = record { cost = 0; first = 0; code = 0 }
-
-pub record IsOwnAt (b : Board) (l : Knowledge) (s : State) (t : Transitions) (row : KeptRow) (i : ℕ) (actions : List KeptAction) (own : KeptAction) :
-    Type 0 where
+pub record IsOwnAt (b : Board) (l : Knowledge) (s : State) (t : Transitions) (row : KeptRow) (i : ℕ) (own : KeptAction) : Type 0 where
   pub are : AreKept l.view s b.problem t row
   pub below : i < length ((ground_process b.problem).choices s)
-  pub inside : row.first + i < length actions
   pub here : slice_get t.actions (row.first + i) ≡ Some own
   pub coded : own.code < length b.problem.actions
 
-pub is_own_at : (b : Board) (k l : Knowledge) (s : State) (t : Transitions) (row : KeptRow) (i : ℕ) (actions : List KeptAction)
-    → HasMore k.view l.view → AreKept k.view s b.problem t row → i < row.past - row.first → actions ≡ t.actions
-    → IsOwnAt b l s t row i actions (get_or actions (row.first + i) first_kept)
-is_own_at b k l s t row i actions later are within same =
+pub is_inside : (b : Board) (k : Knowledge) (s : State) (t : Transitions) (row : KeptRow) (i : ℕ) → AreKept k.view s b.problem t row → i < row.past - row.first
+    → row.first + i < length t.actions
+is_inside b k s t row i are within =
+    let below : i < length ((ground_process b.problem).choices s) = (let n = are.count in omega arith) in
+    let e = are.each i below in slice_get_within t.actions (row.first + i) e.0 e.1
+
+pub is_own_at : (b : Board) (k l : Knowledge) (s : State) (t : Transitions) (row : KeptRow) (i : ℕ) (own : KeptAction)
+    → HasMore k.view l.view → AreKept k.view s b.problem t row → i < row.past - row.first → slice_get t.actions (row.first + i) ≡ Some own
+    → IsOwnAt b l s t row i own
+is_own_at b k l s t row i own later are within here =
     let codes : List ℕ = (ground_process b.problem).choices s in
-    let own : KeptAction = get_or actions (row.first + i) first_kept in
     let below : i < length codes = (let n = are.count in omega arith) in
-    let e = are.each i below in
-    let inside : row.first + i < length actions = (let w = slice_get_within t.actions (row.first + i) e.0 e.1 in let n = ap length same in omega arith) in
-    let here : slice_get t.actions (row.first + i) ≡ Some own =
-    subst (λ (xs : List KeptAction). slice_get xs (row.first + i) ≡ Some own) same (slice_get-get_or actions (row.first + i) first_kept inside) in
     let still = kept_still k.view l.view later s b.problem t row are in
     let is : IsKeptAt l.view s b.problem t.ids (get_or codes i 0) own = own_is_kept b l s t row still i own below here in
     let within_all = slice_get_within b.problem.actions (get_or codes i 0) is.action is.here in
-    let code = is.code_is in record { are = still; below = below; inside = inside; here = here; coded = omega arith }
+    let code = is.code_is in record { are = still; below = below; here = here; coded = omega arith }
 
 pub record IsActionAt (b : Board) (l : Knowledge) (s : State) (t : Transitions) (own : KeptAction) (a : GroundAction) : Type 0 where
   pub coded : slice_get b.problem.actions own.code ≡ Some a
   pub is : IsAction (length b.problem.atoms) a
   pub kept : IsKeptAction l.view s t.ids a own
 
-pub is_action_at : (b : Board) (l : Knowledge) (s : State) (t : Transitions) (row : KeptRow) (i : ℕ) (actions : List KeptAction) (own : KeptAction)
-    → IsOwnAt b l s t row i actions own → IsGroundProblem b.problem → (all : List GroundAction) → all ≡ b.problem.actions → (a : GroundAction)
+pub is_action_at : (b : Board) (l : Knowledge) (s : State) (t : Transitions) (row : KeptRow) (i : ℕ) (own : KeptAction)
+    → IsOwnAt b l s t row i own → IsGroundProblem b.problem → (all : List GroundAction) → all ≡ b.problem.actions → (a : GroundAction)
     → a ≡ get_or all own.code a → IsActionAt b l s t own a
-is_action_at b l s t row i actions own at problem all same a read =
+is_action_at b l s t row i own at problem all same a read =
     let inside : own.code < length all = (let n = ap length same in let c = at.coded in omega arith) in
     let coded : slice_get b.problem.actions own.code ≡ Some a =
     subst (λ (xs : List GroundAction). slice_get xs own.code ≡ Some a) same (slice_get_read all (length all) own.code a refl inside read) in record {

@@ -91,7 +91,7 @@ fn best_of_kept(
     };
     chosen.clear();
     for index in 0..row.past - row.first {
-        let own = kept.actions()[(row.first + index) as usize];
+        let own = kept.action(row.first + index);
         let action = &problem.actions()[own.code as usize];
         let sums = read_kept(words, pass, action, &own, kept.ids(), tried);
         best = take_in(best, own.code, action.den, sums, tried, chosen);

@@ -84,7 +84,7 @@ fn least_of_kept(
         word: first,
     };
     for index in 0..row.past - row.first {
-        let own = kept.actions()[(row.first + index) as usize];
+        let own = kept.action(row.first + index);
         let action = &problem.actions()[own.code as usize];
         let sums = sum_kept(words, pass, action, &own, kept.ids());
         least = least.with(sums, action.den, own.code);

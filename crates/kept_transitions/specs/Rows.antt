@@ -7,8 +7,8 @@
 --     AddsId t id done u         u is t with the id behind the others, if it was put there
 --     AddsAction t action done u the same of an action
 --     IsRoom n most              so many stand where at most so many may, and their places have 32 bits
-use Rattle.std.specs.Prelude.{◌≡◌, ℕ, ◌<◌, ◌≤◌, ◌^◌, Bool, true, false, cond, List, [], ◌∷◌, ◌++◌}
-use Rattle.std.specs.Prelude.{length, get_or, slice_set, replicate}
+use Rattle.std.specs.Prelude.{◌≡◌, ℕ, ◌<◌, ◌≤◌, ◌^◌, Bool, cond, List, [], ◌∷◌, ◌++◌}
+use Rattle.std.specs.Prelude.{get_or, slice_set, replicate}
 use Rattle.kept_transitions.specs.declared.kept_action.KeptAction.{KeptAction}
 use Rattle.kept_transitions.specs.declared.kept_row.KeptRow.{KeptRow}
 

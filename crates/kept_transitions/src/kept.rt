@@ -1,32 +1,43 @@
 //! The arena of kept transitions.
 
-ghost use Rattle.std.specs.Prelude.{◌≡◌, ◌<◌, ◌^◌, length, take, IfOk};
+ghost use Rattle.std.specs.Prelude.{◌≡◌, ◌<◌, ◌^◌, Some, length, take, IfOk};
+ghost use Rattle.std.specs.List.{slice_get};
 ghost use Rattle.kept_transitions.specs.Rows.{new_kept, row_of, with_row, AddsId, AddsAction};
 
 use crate::kept_action::KeptAction;
 use crate::kept_row::KeptRow;
+use crate::kinds::Kinds;
+use crate::stored_action::StoredAction;
 use std::alloc::{AllocError, Global};
 use std::marker::Model;
+
+/// For how many kinds there is room at least: one of each code.
+const LEAST_KINDS: u32 = 1 << 16;
+
+/// For so many actions there is room for one kind more.
+const ACTIONS_OF_A_KIND: u32 = 4;
 
 /// The open actions of states with the ids of the states that follow, by id. All memory is taken by `make`.
 /// Contracts see the rows of the ids, the actions, and the ids that follow.
 #[derive(Drop)]
 pub struct Kept {
     rows: Vec<KeptRow>,
-    actions: Vec<KeptAction>,
+    kinds: Kinds,
+    actions: Vec<StoredAction>,
     ids: Vec<u32>,
 }
 
 impl Model for Kept {
     ghost use Rattle.std.specs.Prelude.{◌<◌, ◌≤◌, ◌^◌, length, vec_capacity};
     ghost use Rattle.kept_transitions.specs.Rows.{Transitions, IsRoom};
+    ghost use Rattle.kept_transitions.specs.Kinds.{actions_of, AreOfKinds};
 
     ghost Value = { Transitions };
 
-    ghost view = { λ k. record { rows = k.rows.items; actions = k.actions.items; ids = k.ids.items } };
+    ghost view = { λ k. record { rows = k.rows.items; actions = actions_of k.kinds k.actions.items; ids = k.ids.items } };
 
     ghost invariant = { λ k. IsRoom (length k.actions.items) (vec_capacity k.actions)
-        × IsRoom (length k.ids.items) (vec_capacity k.ids) };
+        × IsRoom (length k.ids.items) (vec_capacity k.ids) × AreOfKinds k.kinds k.actions.items };
 }
 
 impl Kept {
@@ -37,6 +48,7 @@ impl Kept {
     {
         Ok(Kept {
             rows: vec![in alloc; KeptRow::UNTRIED; ids as usize]?,
+            kinds: Kinds::make(alloc, LEAST_KINDS + actions / ACTIONS_OF_A_KIND)?,
             actions: Vec::with_capacity(alloc, actions as usize)?,
             ids: Vec::with_capacity(alloc, followers as usize)?,
         })
@@ -52,11 +64,18 @@ impl Kept {
         }
     }
 
-    /// All actions.
-    pub fn actions(&self) -> &[KeptAction]
-        ensures { result.now ≡ self.now.actions }
+    /// The action in a place.
+    pub fn action(&self, index: u32) -> KeptAction
+        requires { index < length self.now.actions }
+        ensures { slice_get self.now.actions index ≡ Some result }
     {
-        self.actions.as_slice()
+        let stored = self.actions[index as usize];
+        let kind = self.kinds.kind(stored.kind);
+        KeptAction {
+            cost: kind.cost,
+            first: stored.first,
+            code: kind.code,
+        }
     }
 
     /// All ids that follow.
@@ -95,11 +114,17 @@ impl Kept {
     pub fn push_action(&mut self, action: KeptAction) -> bool
         ensures { AddsAction self.old action result self.new }
     {
-        if self.actions.len() < self.actions.capacity() {
-            self.actions.push_reserved(action);
-            return true;
+        if self.actions.len() >= self.actions.capacity() {
+            return false;
         }
-        false
+        let Some(kind) = self.kinds.place_of(action.code, action.cost) else {
+            return false;
+        };
+        self.actions.push_reserved(StoredAction {
+            kind,
+            first: action.first,
+        });
+        true
     }
 
     /// Drops all but the first actions and the first ids that follow, so many of each.

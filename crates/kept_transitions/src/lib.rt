@@ -4,6 +4,9 @@
 mod kept;
 mod kept_action;
 mod kept_row;
+mod kind;
+mod kinds;
+mod stored_action;
 
 pub use kept::Kept;
 pub use kept_action::KeptAction;

@@ -1,73 +1,77 @@
-use Rattle.std.proofs.Common.{◌≡◌, ◌+◌, length, take, get_or, sym, ap, ◌∙◌, subst, arith}
+use Rattle.std.proofs.Common.{◌≡◌, length, take, sym, ap, ◌∙◌, subst, arith}
 use Rattle.std.proofs.lemmas.List.{take_more}
 use Rattle.ground_model.specs.Ground.{Ground}
 use Rattle.ground_model.specs.Invariant.{IsGroundProblem}
 use Rattle.ground_model.specs.Steps.{ground_process}
-use Rattle.kept_transitions.specs.declared.kept_action.KeptAction.{KeptAction}
 use Rattle.bellman_backup.specs.Kept.{IsKeptAction}
-use Rattle.bellman_backup.proofs.KeptReads.{first_kept, is_own_at, is_action_at, chosen_goes_on}
+use Rattle.bellman_backup.proofs.KeptReads.{is_inside, is_own_at, is_action_at, chosen_goes_on}
 use Rattle.bellman_backup.proofs.Finishing.{word_within}
 use Rattle.bellman_backup.proofs.recalling.best_of_kept.Goals as goal
 
+pub action-own-requires : goal.action-own-requires
+action-own-requires c =
+    is_inside c.args.words.now c.args.pass.now c.requires.kept.0 c.args.kept.now c.args.row c.loop-index.index c.requires.kept.1
+    (let q = c.loop-index-test.true in omega arith)
+
 pub overflow_cast-action : goal.overflow_cast-action
 overflow_cast-action c =
-    let b = c.args.words.now in let t = c.args.kept.now in let row = c.args.row in let i = c.loop-index.index in let xs = c.actions.result.now in
-    let own = is_own_at b c.args.pass.now c.loop-index.pass c.requires.kept.0 t row i xs c.loop-index.invariant.keeps.noted c.requires.kept.1
-    (let q = c.loop-index-test.true in omega arith) c.actions.ensures in
+    let b = c.args.words.now in let t = c.args.kept.now in let row = c.args.row in let i = c.loop-index.index in let own = c.action-own.result in
+    let is = is_own_at b c.args.pass.now c.loop-index.pass c.requires.kept.0 t row i own c.loop-index.invariant.keeps.noted c.requires.kept.1
+    (let q = c.loop-index-test.true in omega arith) c.action-own.ensures in
     let problem : IsGroundProblem b.problem = subst IsGroundProblem c.problem-problem.ensures c.penalty-penalty.ensures.valid in
-    let few = problem.actions_count in let coded = own.coded in omega arith
+    let few = problem.actions_count in let coded = is.coded in omega arith
 
 pub offset_bounds-actions-own : goal.offset_bounds-actions-own
 offset_bounds-actions-own c =
-    let b = c.args.words.now in let t = c.args.kept.now in let row = c.args.row in let i = c.loop-index.index in let xs = c.actions.result.now in
-    let own = is_own_at b c.args.pass.now c.loop-index.pass c.requires.kept.0 t row i xs c.loop-index.invariant.keeps.noted c.requires.kept.1
-    (let q = c.loop-index-test.true in omega arith) c.actions.ensures in
+    let b = c.args.words.now in let t = c.args.kept.now in let row = c.args.row in let i = c.loop-index.index in let own = c.action-own.result in
+    let is = is_own_at b c.args.pass.now c.loop-index.pass c.requires.kept.0 t row i own c.loop-index.invariant.keeps.noted c.requires.kept.1
+    (let q = c.loop-index-test.true in omega arith) c.action-own.ensures in
     let problem : IsGroundProblem b.problem = subst IsGroundProblem c.problem-problem.ensures c.penalty-penalty.ensures.valid in
-    let few = problem.actions_count in let coded = own.coded in omega arith
+    let few = problem.actions_count in let coded = is.coded in omega arith
 
 pub bounds-actions-own : goal.bounds-actions-own
 bounds-actions-own c =
-    let b = c.args.words.now in let t = c.args.kept.now in let row = c.args.row in let i = c.loop-index.index in let xs = c.actions.result.now in
-    let own = is_own_at b c.args.pass.now c.loop-index.pass c.requires.kept.0 t row i xs c.loop-index.invariant.keeps.noted c.requires.kept.1
-    (let q = c.loop-index-test.true in omega arith) c.actions.ensures in
-    let same : c.actions-in-loop-index.result.now ≡ b.problem.actions
-    = c.actions-in-loop-index.ensures.value ∙ ap (λ (p : Ground). p.actions) c.problem-problem.ensures in
-    let n = ap length same in let coded = own.coded in omega arith
+    let b = c.args.words.now in let t = c.args.kept.now in let row = c.args.row in let i = c.loop-index.index in let own = c.action-own.result in
+    let is = is_own_at b c.args.pass.now c.loop-index.pass c.requires.kept.0 t row i own c.loop-index.invariant.keeps.noted c.requires.kept.1
+    (let q = c.loop-index-test.true in omega arith) c.action-own.ensures in
+    let same : c.actions.result.now ≡ b.problem.actions
+    = c.actions.ensures.value ∙ ap (λ (p : Ground). p.actions) c.problem-problem.ensures in
+    let n = ap length same in let coded = is.coded in omega arith
 
 pub read_kept-sums-requires-clause-action : goal.read_kept-sums-requires-clause-action
 read_kept-sums-requires-clause-action c =
     let b = c.args.words.now in let l = c.loop-index.pass in let s = c.requires.kept.0 in
-    let t = c.args.kept.now in let row = c.args.row in let i = c.loop-index.index in let xs = c.actions.result.now in
-    let own = is_own_at b c.args.pass.now l s t row i xs c.loop-index.invariant.keeps.noted c.requires.kept.1
-    (let q = c.loop-index-test.true in omega arith) c.actions.ensures in
+    let t = c.args.kept.now in let row = c.args.row in let i = c.loop-index.index in let own = c.action-own.result in
+    let is = is_own_at b c.args.pass.now l s t row i own c.loop-index.invariant.keeps.noted c.requires.kept.1
+    (let q = c.loop-index-test.true in omega arith) c.action-own.ensures in
     let problem : IsGroundProblem b.problem = subst IsGroundProblem c.problem-problem.ensures c.penalty-penalty.ensures.valid in
-    let same : c.actions-in-loop-index.result.now ≡ b.problem.actions
-    = c.actions-in-loop-index.ensures.value ∙ ap (λ (p : Ground). p.actions) c.problem-problem.ensures in
-    (is_action_at b l s t row i xs (get_or xs (row.first + i) first_kept) own problem c.actions-in-loop-index.result.now same c.index-actions-own.result c.index-actions-own.is).is
+    let same : c.actions.result.now ≡ b.problem.actions
+    = c.actions.ensures.value ∙ ap (λ (p : Ground). p.actions) c.problem-problem.ensures in
+    (is_action_at b l s t row i own is problem c.actions.result.now same c.index-actions-own.result c.index-actions-own.is).is
 
 pub read_kept-sums-requires-clause-kept : goal.read_kept-sums-requires-clause-kept
 read_kept-sums-requires-clause-kept c =
     let b = c.args.words.now in let l = c.loop-index.pass in let s = c.requires.kept.0 in
-    let t = c.args.kept.now in let row = c.args.row in let i = c.loop-index.index in let xs = c.actions.result.now in
-    let own = is_own_at b c.args.pass.now l s t row i xs c.loop-index.invariant.keeps.noted c.requires.kept.1
-    (let q = c.loop-index-test.true in omega arith) c.actions.ensures in
+    let t = c.args.kept.now in let row = c.args.row in let i = c.loop-index.index in let own = c.action-own.result in
+    let is = is_own_at b c.args.pass.now l s t row i own c.loop-index.invariant.keeps.noted c.requires.kept.1
+    (let q = c.loop-index-test.true in omega arith) c.action-own.ensures in
     let problem : IsGroundProblem b.problem = subst IsGroundProblem c.problem-problem.ensures c.penalty-penalty.ensures.valid in
-    let same : c.actions-in-loop-index.result.now ≡ b.problem.actions
-    = c.actions-in-loop-index.ensures.value ∙ ap (λ (p : Ground). p.actions) c.problem-problem.ensures in
+    let same : c.actions.result.now ≡ b.problem.actions
+    = c.actions.ensures.value ∙ ap (λ (p : Ground). p.actions) c.problem-problem.ensures in
     let a = c.index-actions-own.result in
-    let at = is_action_at b l s t row i xs (get_or xs (row.first + i) first_kept) own problem c.actions-in-loop-index.result.now same a c.index-actions-own.is in
-    (s, subst (λ zs. IsKeptAction l.view s zs a (get_or xs (row.first + i) first_kept)) (sym c.ids.ensures) at.kept)
+    let at = is_action_at b l s t row i own is problem c.actions.result.now same a c.index-actions-own.is in
+    (s, subst (λ zs. IsKeptAction l.view s zs a own) (sym c.ids.ensures) at.kept)
 
 pub take_in-best-requires-clause-den : goal.take_in-best-requires-clause-den
 take_in-best-requires-clause-den c =
     let b = c.args.words.now in let l = c.loop-index.pass in let s = c.requires.kept.0 in
-    let t = c.args.kept.now in let row = c.args.row in let i = c.loop-index.index in let xs = c.actions.result.now in
-    let own = is_own_at b c.args.pass.now l s t row i xs c.loop-index.invariant.keeps.noted c.requires.kept.1
-    (let q = c.loop-index-test.true in omega arith) c.actions.ensures in
+    let t = c.args.kept.now in let row = c.args.row in let i = c.loop-index.index in let own = c.action-own.result in
+    let is = is_own_at b c.args.pass.now l s t row i own c.loop-index.invariant.keeps.noted c.requires.kept.1
+    (let q = c.loop-index-test.true in omega arith) c.action-own.ensures in
     let problem : IsGroundProblem b.problem = subst IsGroundProblem c.problem-problem.ensures c.penalty-penalty.ensures.valid in
-    let same : c.actions-in-loop-index.result.now ≡ b.problem.actions
-    = c.actions-in-loop-index.ensures.value ∙ ap (λ (p : Ground). p.actions) c.problem-problem.ensures in
-    let at = is_action_at b l s t row i xs (get_or xs (row.first + i) first_kept) own problem c.actions-in-loop-index.result.now same c.index-actions-own.result c.index-actions-own.is in
+    let same : c.actions.result.now ≡ b.problem.actions
+    = c.actions.ensures.value ∙ ap (λ (p : Ground). p.actions) c.problem-problem.ensures in
+    let at = is_action_at b l s t row i own is problem c.actions.result.now same c.index-actions-own.result c.index-actions-own.is in
     let above = at.is.weights.den_above in omega arith
 
 pub take_in-best-requires-clause-bound : goal.take_in-best-requires-clause-bound
@@ -80,21 +84,21 @@ take_in-best-requires-clause-bound c =
 pub loop-index-preserved : goal.loop-index-preserved
 loop-index-preserved c =
     let b = c.args.words.now in let g = b.problem in let k = c.args.pass.now in let l = c.loop-index.pass in let s = c.requires.kept.0 in
-    let t = c.args.kept.now in let row = c.args.row in let i = c.loop-index.index in let xs = c.actions.result.now in
-    let own = is_own_at b k l s t row i xs c.loop-index.invariant.keeps.noted c.requires.kept.1
-    (let q = c.loop-index-test.true in omega arith) c.actions.ensures in
+    let t = c.args.kept.now in let row = c.args.row in let i = c.loop-index.index in let own = c.action-own.result in
+    let is = is_own_at b k l s t row i own c.loop-index.invariant.keeps.noted c.requires.kept.1
+    (let q = c.loop-index-test.true in omega arith) c.action-own.ensures in
     let problem : IsGroundProblem g = subst IsGroundProblem c.problem-problem.ensures c.penalty-penalty.ensures.valid in
-    let same : c.actions-in-loop-index.result.now ≡ g.actions
-    = c.actions-in-loop-index.ensures.value ∙ ap (λ (p : Ground). p.actions) c.problem-problem.ensures in
-    let action : KeptAction = get_or xs (row.first + i) first_kept in let a = c.index-actions-own.result in
-    let at = is_action_at b l s t row i xs action own problem c.actions-in-loop-index.result.now same a c.index-actions-own.is in
+    let same : c.actions.result.now ≡ g.actions
+    = c.actions.ensures.value ∙ ap (λ (p : Ground). p.actions) c.problem-problem.ensures in
+    let a = c.index-actions-own.result in
+    let at = is_action_at b l s t row i own is problem c.actions.result.now same a c.index-actions-own.is in
     let d = c.take_in-best.ensures in
-    chosen_goes_on b k l c.read_kept-sums.new.pass t row c.loop-index.chosen c.take_in-best.new.chosen c.read_kept-sums.new.steps c.loop-index.best c.take_in-best.result i action a
+    chosen_goes_on b k l c.read_kept-sums.new.pass t row c.loop-index.chosen c.take_in-best.new.chosen c.read_kept-sums.new.steps c.loop-index.best c.take_in-best.result i own a
     c.read_kept-sums.result c.loop-index.invariant c.read_kept-sums.ensures.keeps
     (λ z kept. let n = kept.count in let q = c.loop-index-test.true in omega arith)
     (λ z under. take_more ((ground_process g).choices z) i 0 under)
-    own.here at.coded
-    (λ z kept. c.read_kept-sums.ensures.read z (subst (λ zs. IsKeptAction l.view z zs a action) (sym c.ids.ensures) kept))
+    is.here at.coded
+    (λ z kept. c.read_kept-sums.ensures.read z (subst (λ zs. IsKeptAction l.view z zs a own) (sym c.ids.ensures) kept))
     d.lower d.word d.better d.same
 
 pub returns-clause-problem : goal.returns-clause-problem

@@ -1,74 +1,78 @@
-use Rattle.std.proofs.Common.{◌≡◌, ◌+◌, length, get_or, sym, ap, ◌∙◌, subst, arith}
+use Rattle.std.proofs.Common.{◌≡◌, length, sym, ap, ◌∙◌, subst, arith}
 use Rattle.std.proofs.lemmas.List.{take_more}
 use Rattle.ground_model.specs.Ground.{Ground}
 use Rattle.ground_model.specs.Invariant.{IsGroundProblem}
 use Rattle.ground_model.specs.Steps.{ground_process}
-use Rattle.kept_transitions.specs.declared.kept_action.KeptAction.{KeptAction}
 use Rattle.bellman_backup.specs.Kept.{IsKeptAction}
 use Rattle.bellman_backup.specs.Leasts.{HasSummed}
-use Rattle.bellman_backup.proofs.KeptReads.{first_kept, is_own_at, is_action_at}
+use Rattle.bellman_backup.proofs.KeptReads.{is_inside, is_own_at, is_action_at}
 use Rattle.bellman_backup.proofs.Leasts.{least_begins, least_goes_on, least_ends}
 use Rattle.bellman_backup.proofs.unasked.least_of_kept.Goals as goal
 
+pub action-own-requires : goal.action-own-requires
+action-own-requires c =
+    is_inside c.args.words.now c.args.pass.now c.requires.kept.0 c.args.kept.now c.args.row c.loop-index.index c.requires.kept.1
+    (let q = c.loop-index-test.true in omega arith)
+
 pub overflow_cast-action : goal.overflow_cast-action
 overflow_cast-action c =
-    let b = c.args.words.now in let t = c.args.kept.now in let row = c.args.row in let i = c.loop-index.index in let xs = c.actions.result.now in
-    let own = is_own_at b c.args.pass.now c.loop-index.pass c.requires.kept.0 t row i xs c.loop-index.invariant.is.keeps.noted c.requires.kept.1
-    (let q = c.loop-index-test.true in omega arith) c.actions.ensures in
+    let b = c.args.words.now in let t = c.args.kept.now in let row = c.args.row in let i = c.loop-index.index in let own = c.action-own.result in
+    let is = is_own_at b c.args.pass.now c.loop-index.pass c.requires.kept.0 t row i own c.loop-index.invariant.is.keeps.noted c.requires.kept.1
+    (let q = c.loop-index-test.true in omega arith) c.action-own.ensures in
     let problem : IsGroundProblem b.problem = subst IsGroundProblem c.problem-problem.ensures c.penalty-penalty.ensures.valid in
-    let few = problem.actions_count in let coded = own.coded in omega arith
+    let few = problem.actions_count in let coded = is.coded in omega arith
 
 pub offset_bounds-actions-own : goal.offset_bounds-actions-own
 offset_bounds-actions-own c =
-    let b = c.args.words.now in let t = c.args.kept.now in let row = c.args.row in let i = c.loop-index.index in let xs = c.actions.result.now in
-    let own = is_own_at b c.args.pass.now c.loop-index.pass c.requires.kept.0 t row i xs c.loop-index.invariant.is.keeps.noted c.requires.kept.1
-    (let q = c.loop-index-test.true in omega arith) c.actions.ensures in
+    let b = c.args.words.now in let t = c.args.kept.now in let row = c.args.row in let i = c.loop-index.index in let own = c.action-own.result in
+    let is = is_own_at b c.args.pass.now c.loop-index.pass c.requires.kept.0 t row i own c.loop-index.invariant.is.keeps.noted c.requires.kept.1
+    (let q = c.loop-index-test.true in omega arith) c.action-own.ensures in
     let problem : IsGroundProblem b.problem = subst IsGroundProblem c.problem-problem.ensures c.penalty-penalty.ensures.valid in
-    let few = problem.actions_count in let coded = own.coded in omega arith
+    let few = problem.actions_count in let coded = is.coded in omega arith
 
 pub bounds-actions-own : goal.bounds-actions-own
 bounds-actions-own c =
-    let b = c.args.words.now in let t = c.args.kept.now in let row = c.args.row in let i = c.loop-index.index in let xs = c.actions.result.now in
-    let own = is_own_at b c.args.pass.now c.loop-index.pass c.requires.kept.0 t row i xs c.loop-index.invariant.is.keeps.noted c.requires.kept.1
-    (let q = c.loop-index-test.true in omega arith) c.actions.ensures in
-    let same : c.actions-in-loop-index.result.now ≡ b.problem.actions
-    = c.actions-in-loop-index.ensures.value ∙ ap (λ (p : Ground). p.actions) c.problem-problem.ensures in
-    let n = ap length same in let coded = own.coded in omega arith
+    let b = c.args.words.now in let t = c.args.kept.now in let row = c.args.row in let i = c.loop-index.index in let own = c.action-own.result in
+    let is = is_own_at b c.args.pass.now c.loop-index.pass c.requires.kept.0 t row i own c.loop-index.invariant.is.keeps.noted c.requires.kept.1
+    (let q = c.loop-index-test.true in omega arith) c.action-own.ensures in
+    let same : c.actions.result.now ≡ b.problem.actions
+    = c.actions.ensures.value ∙ ap (λ (p : Ground). p.actions) c.problem-problem.ensures in
+    let n = ap length same in let coded = is.coded in omega arith
 
 pub sum_kept-sums-requires-clause-action : goal.sum_kept-sums-requires-clause-action
 sum_kept-sums-requires-clause-action c =
     let b = c.args.words.now in let l = c.loop-index.pass in let s = c.requires.kept.0 in
-    let t = c.args.kept.now in let row = c.args.row in let i = c.loop-index.index in let xs = c.actions.result.now in
-    let own = is_own_at b c.args.pass.now l s t row i xs c.loop-index.invariant.is.keeps.noted c.requires.kept.1
-    (let q = c.loop-index-test.true in omega arith) c.actions.ensures in
+    let t = c.args.kept.now in let row = c.args.row in let i = c.loop-index.index in let own = c.action-own.result in
+    let is = is_own_at b c.args.pass.now l s t row i own c.loop-index.invariant.is.keeps.noted c.requires.kept.1
+    (let q = c.loop-index-test.true in omega arith) c.action-own.ensures in
     let problem : IsGroundProblem b.problem = subst IsGroundProblem c.problem-problem.ensures c.penalty-penalty.ensures.valid in
-    let same : c.actions-in-loop-index.result.now ≡ b.problem.actions
-    = c.actions-in-loop-index.ensures.value ∙ ap (λ (p : Ground). p.actions) c.problem-problem.ensures in
-    (is_action_at b l s t row i xs (get_or xs (row.first + i) first_kept) own problem c.actions-in-loop-index.result.now same c.index-actions-own.result c.index-actions-own.is).is
+    let same : c.actions.result.now ≡ b.problem.actions
+    = c.actions.ensures.value ∙ ap (λ (p : Ground). p.actions) c.problem-problem.ensures in
+    (is_action_at b l s t row i own is problem c.actions.result.now same c.index-actions-own.result c.index-actions-own.is).is
 
 pub sum_kept-sums-requires-clause-kept : goal.sum_kept-sums-requires-clause-kept
 sum_kept-sums-requires-clause-kept c =
     let b = c.args.words.now in let l = c.loop-index.pass in let s = c.requires.kept.0 in
-    let t = c.args.kept.now in let row = c.args.row in let i = c.loop-index.index in let xs = c.actions.result.now in
-    let own = is_own_at b c.args.pass.now l s t row i xs c.loop-index.invariant.is.keeps.noted c.requires.kept.1
-    (let q = c.loop-index-test.true in omega arith) c.actions.ensures in
+    let t = c.args.kept.now in let row = c.args.row in let i = c.loop-index.index in let own = c.action-own.result in
+    let is = is_own_at b c.args.pass.now l s t row i own c.loop-index.invariant.is.keeps.noted c.requires.kept.1
+    (let q = c.loop-index-test.true in omega arith) c.action-own.ensures in
     let problem : IsGroundProblem b.problem = subst IsGroundProblem c.problem-problem.ensures c.penalty-penalty.ensures.valid in
-    let same : c.actions-in-loop-index.result.now ≡ b.problem.actions
-    = c.actions-in-loop-index.ensures.value ∙ ap (λ (p : Ground). p.actions) c.problem-problem.ensures in
+    let same : c.actions.result.now ≡ b.problem.actions
+    = c.actions.ensures.value ∙ ap (λ (p : Ground). p.actions) c.problem-problem.ensures in
     let a = c.index-actions-own.result in
-    let at = is_action_at b l s t row i xs (get_or xs (row.first + i) first_kept) own problem c.actions-in-loop-index.result.now same a c.index-actions-own.is in
-    (s, subst (λ zs. IsKeptAction l.view s zs a (get_or xs (row.first + i) first_kept)) (sym c.ids.ensures) at.kept)
+    let at = is_action_at b l s t row i own is problem c.actions.result.now same a c.index-actions-own.is in
+    (s, subst (λ zs. IsKeptAction l.view s zs a own) (sym c.ids.ensures) at.kept)
 
 pub with-least-requires-clause-dens : goal.with-least-requires-clause-dens
 with-least-requires-clause-dens c =
     let b = c.args.words.now in let l = c.loop-index.pass in let s = c.requires.kept.0 in
-    let t = c.args.kept.now in let row = c.args.row in let i = c.loop-index.index in let xs = c.actions.result.now in
-    let own = is_own_at b c.args.pass.now l s t row i xs c.loop-index.invariant.is.keeps.noted c.requires.kept.1
-    (let q = c.loop-index-test.true in omega arith) c.actions.ensures in
+    let t = c.args.kept.now in let row = c.args.row in let i = c.loop-index.index in let own = c.action-own.result in
+    let is = is_own_at b c.args.pass.now l s t row i own c.loop-index.invariant.is.keeps.noted c.requires.kept.1
+    (let q = c.loop-index-test.true in omega arith) c.action-own.ensures in
     let problem : IsGroundProblem b.problem = subst IsGroundProblem c.problem-problem.ensures c.penalty-penalty.ensures.valid in
-    let same : c.actions-in-loop-index.result.now ≡ b.problem.actions
-    = c.actions-in-loop-index.ensures.value ∙ ap (λ (p : Ground). p.actions) c.problem-problem.ensures in
-    let at = is_action_at b l s t row i xs (get_or xs (row.first + i) first_kept) own problem c.actions-in-loop-index.result.now same c.index-actions-own.result c.index-actions-own.is in
+    let same : c.actions.result.now ≡ b.problem.actions
+    = c.actions.ensures.value ∙ ap (λ (p : Ground). p.actions) c.problem-problem.ensures in
+    let at = is_action_at b l s t row i own is problem c.actions.result.now same c.index-actions-own.result c.index-actions-own.is in
     let above = at.is.weights.den_above in (c.loop-index.invariant.den, omega arith)
 
 pub with-least-requires-clause-bound : goal.with-least-requires-clause-bound
@@ -85,20 +89,20 @@ loop-index-init c =
 pub loop-index-preserved : goal.loop-index-preserved
 loop-index-preserved c =
     let b = c.args.words.now in let g = b.problem in let k = c.args.pass.now in let l = c.loop-index.pass in let s = c.requires.kept.0 in
-    let t = c.args.kept.now in let row = c.args.row in let i = c.loop-index.index in let xs = c.actions.result.now in
-    let own = is_own_at b k l s t row i xs c.loop-index.invariant.is.keeps.noted c.requires.kept.1
-    (let q = c.loop-index-test.true in omega arith) c.actions.ensures in
+    let t = c.args.kept.now in let row = c.args.row in let i = c.loop-index.index in let own = c.action-own.result in
+    let is = is_own_at b k l s t row i own c.loop-index.invariant.is.keeps.noted c.requires.kept.1
+    (let q = c.loop-index-test.true in omega arith) c.action-own.ensures in
     let problem : IsGroundProblem g = subst IsGroundProblem c.problem-problem.ensures c.penalty-penalty.ensures.valid in
-    let same : c.actions-in-loop-index.result.now ≡ g.actions
-    = c.actions-in-loop-index.ensures.value ∙ ap (λ (p : Ground). p.actions) c.problem-problem.ensures in
-    let action : KeptAction = get_or xs (row.first + i) first_kept in let a = c.index-actions-own.result in
-    let at = is_action_at b l s t row i xs action own problem c.actions-in-loop-index.result.now same a c.index-actions-own.is in
+    let same : c.actions.result.now ≡ g.actions
+    = c.actions.ensures.value ∙ ap (λ (p : Ground). p.actions) c.problem-problem.ensures in
+    let a = c.index-actions-own.result in
+    let at = is_action_at b l s t row i own is problem c.actions.result.now same a c.index-actions-own.is in
     let d = c.with-least.ensures in let m = c.sum_kept-sums.new.pass in
-    least_goes_on b k l m t row c.args.first c.loop-index.least c.with-least.result i action a c.sum_kept-sums.result c.loop-index.invariant c.sum_kept-sums.ensures.keeps
+    least_goes_on b k l m t row c.args.first c.loop-index.least c.with-least.result i own a c.sum_kept-sums.result c.loop-index.invariant c.sum_kept-sums.ensures.keeps
     (λ z kept. let n = kept.count in let q = c.loop-index-test.true in omega arith)
     (λ z under. take_more ((ground_process g).choices z) i 0 under)
-    own.here at.coded
-    (subst (λ zs. HasSummed g l.view m.view zs a action c.sum_kept-sums.result) c.ids.ensures c.sum_kept-sums.ensures.summed)
+    is.here at.coded
+    (subst (λ zs. HasSummed g l.view m.view zs a own c.sum_kept-sums.result) c.ids.ensures c.sum_kept-sums.ensures.summed)
     d.den d.lower d.word
 
 pub returns-clause-problem : goal.returns-clause-problem
