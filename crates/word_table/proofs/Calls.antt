@@ -72,6 +72,14 @@ known_within v l id layout within there = subst (λ (m : Layout). id < m.ids) la
 pub spare_within : (v : View) (l : Layout) (id : ℕ) → v.layout ≡ l → IsWithin v → v.spare ≡ Some id → id < l.ids
 spare_within v l id layout within mine = subst (λ (m : Layout). id < m.ids) layout (within.spare id mine)
 
+-- the place of a number that words tell is that of their layout
+module _ (b : Board) (g : Ground) (l : Layout) (most : ℕ) (z : TableId) (i id : ℕ) (words_are : board g l most z ≡ b) where
+  pub lower_of : i ≡ lower_at b.layout id → i ≡ lower_at l id
+  lower_of at = at ∙ ap (λ (x : Board). lower_at x.layout id) (sym words_are)
+
+  pub upper_of : i ≡ upper_at b.layout id → i ≡ upper_at l id
+  upper_of at = at ∙ ap (λ (x : Board). upper_at x.layout id) (sym words_are)
+
 pub lower_is_a_word : (l : Layout) (i id n : ℕ) → i ≡ lower_at l id → id < l.ids → n ≡ size l → i < n
 lower_is_a_word l i id n is below all = omega arith
 

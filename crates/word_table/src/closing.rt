@@ -174,6 +174,8 @@ impl<'p> Words<'p> {
         let Words {
             problem,
             layout,
+            lower_words: _,
+            upper_words: _,
             rights: _,
             table,
         } = self;

@@ -146,6 +146,8 @@ pub fn make<'p>(
     let words = Words {
         problem,
         layout,
+        lower_words: layout.lower(0),
+        upper_words: layout.upper(0),
         rights,
         table,
     };

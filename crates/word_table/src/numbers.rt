@@ -21,7 +21,7 @@ pub fn load_lower(words: &Words<'_>, pass: &mut Pass, id: u32) -> u64
     words
         .table
         .shared
-        .load::<LowerLoad>(&mut pass.seat, words.layout.lower(id))
+        .load::<LowerLoad>(&mut pass.seat, words.lower(id))
 }
 
 /// The upper word of an id.
@@ -34,7 +34,7 @@ pub fn load_upper(words: &Words<'_>, pass: &mut Pass, id: u32) -> UpperWord
     let word = words
         .table
         .shared
-        .load::<UpperLoad>(&mut pass.seat, words.layout.upper(id));
+        .load::<UpperLoad>(&mut pass.seat, words.upper(id));
     UpperWord::from_word(word)
 }
 
@@ -47,7 +47,7 @@ pub fn max_lower(words: &Words<'_>, pass: &mut Pass, id: u32, value: u64)
     words
         .table
         .shared
-        .fetch_max::<LowerMax>(&mut pass.seat, words.layout.lower(id), value);
+        .fetch_max::<LowerMax>(&mut pass.seat, words.lower(id), value);
 }
 
 /// Sinks the upper word of an id to a word that what the pass has seen supports.
@@ -59,5 +59,5 @@ pub fn min_upper(words: &Words<'_>, pass: &mut Pass, id: u32, upper: UpperWord)
     words
         .table
         .shared
-        .fetch_min::<UpperMin>(&mut pass.seat, words.layout.upper(id), upper.word());
+        .fetch_min::<UpperMin>(&mut pass.seat, words.upper(id), upper.word());
 }

@@ -1,6 +1,7 @@
 //! The shared words.
 
-ghost use Rattle.std.specs.Prelude.{◌≡◌};
+ghost use Rattle.std.specs.Prelude.{◌≡◌, ◌<◌};
+ghost use Rattle.word_layout.specs.Places.{lower_at, upper_at};
 ghost use Rattle.word_rule.specs.Rule.{IsTable};
 
 use crate::key::{Key, Rule};
@@ -17,6 +18,9 @@ use word_view::View;
 pub struct Words<'p> {
     pub(crate) problem: &'p GroundProblem,
     pub(crate) layout: Layout,
+    // Where the lower numbers and the upper words begin, so that a load finds its place by one sum.
+    pub(crate) lower_words: usize,
+    pub(crate) upper_words: usize,
     pub(crate) rights: u32,
     pub(crate) table: Table<(), View, Key<'p>, Rule, Global>,
 }
@@ -39,7 +43,8 @@ impl<'p> Model for Words<'p> {
         × (w.table.shared.table_id.words ≡ places.size w.layout)
         × (w.table.shared.table_id.slots ≡ 0)
         × (w.table.shared.key.problem.now ≡ w.problem.now) × (w.table.shared.key.layout ≡ w.layout)
-        × (w.table.shared.key.rights ≡ w.rights) };
+        × (w.table.shared.key.rights ≡ w.rights)
+        × (w.lower_words ≡ places.lower_at w.layout 0) × (w.upper_words ≡ places.upper_at w.layout 0) };
 }
 
 impl<'p> Words<'p> {
@@ -72,5 +77,21 @@ impl<'p> Words<'p> {
         ensures table { IsTable self.now.problem self.now.layout }
     {
         self.layout.width
+    }
+
+    /// Where the lower number of an id stands.
+    pub(crate) fn lower(&self, id: u32) -> usize
+        requires { id < self.now.layout.ids }
+        ensures { result ≡ lower_at self.now.layout id }
+    {
+        self.lower_words + id as usize
+    }
+
+    /// Where the upper word of an id stands.
+    pub(crate) fn upper(&self, id: u32) -> usize
+        requires { id < self.now.layout.ids }
+        ensures { result ≡ upper_at self.now.layout id }
+    {
+        self.upper_words + id as usize
     }
 }

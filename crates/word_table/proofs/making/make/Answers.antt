@@ -39,6 +39,8 @@ invariant_of-words c =
       ap (λ (k : Key). k.problem.now) e.5,
       ap (λ (k : Key). k.layout) e.5,
       ap (λ (k : Key). k.rights) e.5,
+      c.lower.ensures,
+      c.upper.ensures,
     )
 
 pub invariant_of-result : goal.invariant_of-result
