@@ -1,8 +1,8 @@
 -- Kept transitions stay kept, once more is noted and more is kept.
-use Rattle.std.proofs.Common.{◌≡◌, ℕ, zero, suc, ◌+◌, true, Some, None, List, [], ◌∷◌, ◌++◌, length, get_or, slice_set, replicate, refl, sym, ap, ◌∙◌, subst, append_assoc, arith}
-use Rattle.std.specs.Prelude.{Option}
+use Rattle.std.proofs.Common.{◌≡◌, ℕ, zero, suc, ◌+◌, true, Some, List, [], ◌∷◌, ◌++◌, length, get_or, slice_set, refl, sym, ap, ◌∙◌, subst, append_assoc, arith}
+use Rattle.std.specs.Prelude.{Option, replicate}
 use Rattle.std.specs.List.{slice_get}
-use Rattle.std.proofs.lemmas.List.{append-nil, length-append, length-set, get_or-set_same, get_or-set_other, get_or_past, get_or_push, get_or-replicate, length-replicate}
+use Rattle.std.proofs.lemmas.List.{append-nil, length-append, length-set, get_or-set_same, get_or-set_other, get_or_past, get_or_push}
 use Rattle.std.proofs.lemmas.Option.{slice_get-get_or}
 use mathlib.Core.Logic.{dite}
 use native.Mathlib.Decide.{ℕ_discrete, dec_lt}
@@ -21,6 +21,16 @@ use Rattle.kept_transitions.specs.declared.kept_action.KeptAction.{KeptAction}
 use Rattle.kept_transitions.specs.declared.kept_row.KeptRow.{KeptRow}
 use Rattle.kept_transitions.specs.Rows.{Transitions, IsKept, untried, never, new_kept, row_of, with_row}
 use Rattle.bellman_backup.specs.Kept.{LeadsTo, IsKeptAction, IsKeptAt, AreKept, IsKeptState, IsKeeping, HasGrown}
+
+-- ---- at first
+
+none_of : (n id : ℕ) → IsKept (get_or (replicate n untried) id never) → ⊥
+none_of zero id kept = omega arith
+none_of (suc n) zero kept = omega arith
+none_of (suc n) (suc id) kept = none_of n id kept
+
+pub new_is_keeping : (g : Ground) (witness : Option Knowledge) (n : ℕ) (t : Transitions) → t ≡ new_kept n → IsKeeping g witness t
+new_is_keeping g witness n t is id kept = absurd (none_of n id (subst (λ (u : Transitions). IsKept (row_of u id)) is kept))
 
 -- ---- lists that grow
 
@@ -100,19 +110,6 @@ kept_still v w more s g t row is = are_kept_later v w more g t t row [] [] (sym 
 
 nothing_is_kept : IsKept never → ⊥
 nothing_is_kept kept = omega arith
-
-untried_is_not_kept : IsKept untried → ⊥
-untried_is_not_kept kept = omega arith
-
--- of a new arena nothing rests on what was noted
-pub keeps_nothing : (g : Ground) (n : ℕ) (t : Transitions) → t ≡ new_kept n → IsKeeping g None t
-keeps_nothing g n t new id kept =
-    let is : row_of t id ≡ get_or (replicate n untried) id never = ap (λ (u : Transitions). row_of u id) new in absurd
-    (dite (dec_lt id n)
-    (λ inside. untried_is_not_kept (subst IsKept (is ∙ get_or-replicate n id untried never inside) kept))
-    (λ outside.
-    let long = length-replicate n untried in
-    nothing_is_kept (subst IsKept (is ∙ get_or_past (replicate n untried) id never (omega arith)) kept)))
 
 module _ (g : Ground) (old : Option Knowledge) (k w : Knowledge) (t u : Transitions) (id : ℕ) (row : KeptRow) (grown : HasGrown t u)
     (keeping : IsKeeping g old t) (stays : (o : Knowledge) → old ≡ Some o → HasMore o.view w.view) (heard : HasMore k.view w.view)

@@ -9,6 +9,7 @@ pub mod Stepping
 pub mod Finishing
 pub mod KeptRows
 pub mod TransitionsKept
+pub mod PlacedWeights
 pub mod KeptReads
 pub mod Quotients
 pub mod Leasts

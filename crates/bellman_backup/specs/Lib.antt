@@ -1,5 +1,6 @@
 pub mod Readings
 pub mod Candidates
+pub mod Odds
 pub mod Examples
 pub mod Kept
 pub mod Growing

@@ -12,6 +12,7 @@ use crate::steps::Steps;
 use brtdp_trial::GIVE_UP;
 use fixed_round::UpperWord;
 use ground_model::State;
+use state_interner::Hints;
 use word_table::{Pass, Words};
 
 /// Reads the open actions of a state, in the order of their codes, and chooses among them and giving up.
@@ -22,6 +23,7 @@ pub(crate) fn best_of(
     codes: &[u16],
     state: &State,
     next: &mut State,
+    hints: &mut Hints,
     tried: &mut Steps,
     chosen: &mut Steps,
 ) -> Best
@@ -46,7 +48,7 @@ pub(crate) fn best_of(
     chosen.clear();
     for code in codes {
         let action = &problem.actions()[*code as usize];
-        let sums = read_action(words, pass, action, state, next, tried);
+        let sums = read_action(words, pass, action, state, next, hints, tried);
         best = take_in(best, *code, action.den, sums, tried, chosen);
     }
     best

@@ -15,11 +15,17 @@ ghost use Rattle.bellman_backup.specs.Totals.{IsUsable};
 use ground_model::{GroundAction, State};
 use ground_step::apply;
 use kept_transitions::{Kept, KeptAction, KeptRow};
-use state_interner::{Interned, intern};
+use state_interner::{Hints, Interned, intern_near};
 use word_table::{Pass, Words};
 
 /// Keeps the id of a state. False: it has none, or there is no room.
-fn keep_id(words: &Words<'_>, pass: &mut Pass, state: &State, kept: &mut Kept) -> bool
+fn keep_id(
+    words: &Words<'_>,
+    pass: &mut Pass,
+    state: &State,
+    hints: &mut Hints,
+    kept: &mut Kept,
+) -> bool
     requires here { IsOf words.now pass.old }
     requires right { 0 < pass.old.view.rights }
     requires reached { IsReached pass.old.view state.now }
@@ -28,7 +34,7 @@ fn keep_id(words: &Words<'_>, pass: &mut Pass, state: &State, kept: &mut Kept) -
     ensures grown { HasGrown kept.old kept.new }
     ensures kept { IsTrue result → HasKeptId pass.new.view state.now kept.old kept.new }
 {
-    match intern(words, pass, state) {
+    match intern_near(words, pass, state, hints) {
         Interned::Id(id) => kept.push_id(id),
         Interned::Full => false,
     }
@@ -43,6 +49,7 @@ fn keep_action(
     action: &GroundAction,
     state: &State,
     next: &mut State,
+    hints: &mut Hints,
     kept: &mut Kept,
 ) -> bool
     requires here { IsOf words.now pass.old }
@@ -62,7 +69,7 @@ fn keep_action(
     for choice in action.choices.as_slice() {
         let paid = apply(choice, state, next);
         cost += u128::from(choice.weight) * u128::from(paid);
-        if !keep_id(words, pass, next, kept) {
+        if !keep_id(words, pass, next, hints, kept) {
             return false;
         }
     }
@@ -83,6 +90,7 @@ fn keep_actions(
     codes: &[u16],
     state: &State,
     next: &mut State,
+    hints: &mut Hints,
     kept: &mut Kept,
 ) -> bool
     requires here { IsOf words.now pass.old }
@@ -100,7 +108,7 @@ fn keep_actions(
     let problem = words.problem();
     for code in codes {
         let action = &problem.actions()[*code as usize];
-        if !keep_action(words, pass, *code, action, state, next, kept) {
+        if !keep_action(words, pass, *code, action, state, next, hints, kept) {
             return false;
         }
     }
@@ -115,6 +123,7 @@ pub(crate) fn expand(
     codes: &[u16],
     state: &State,
     next: &mut State,
+    hints: &mut Hints,
     kept: &mut Kept,
 ) -> KeptRow
     requires here { IsOf words.now pass.old }
@@ -131,7 +140,7 @@ pub(crate) fn expand(
 {
     let first = kept.action_count();
     let ids = kept.id_count();
-    if keep_actions(words, pass, codes, state, next, kept) {
+    if keep_actions(words, pass, codes, state, next, hints, kept) {
         return KeptRow {
             first,
             past: kept.action_count(),

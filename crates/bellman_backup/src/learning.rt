@@ -16,6 +16,7 @@ use ground_model::State;
 use ground_step::is_goal;
 use kept_transitions::{Kept, KeptRow};
 use open_actions::{OpenActions, OpenCodes};
+use state_interner::Hints;
 use word_table::{Pass, Words, meet, split};
 
 /// Keeps the open actions of an id's state, and answers where they stand. The answer is a row of nothing at a
@@ -28,6 +29,7 @@ fn find_row(
     codes: &mut OpenCodes,
     state: &mut State,
     next: &mut State,
+    hints: &mut Hints,
     kept: &mut Kept,
 ) -> KeptRow
     requires here { IsOf words.now pass.old }
@@ -47,7 +49,7 @@ fn find_row(
         return KeptRow::NEVER;
     }
     index.fill(state, codes);
-    expand(words, pass, codes.as_slice(), state, next, kept)
+    expand(words, pass, codes.as_slice(), state, next, hints, kept)
 }
 
 /// The witness, once it has learnt what the pass has noted. Where there is none, a copy of the pass without rights
@@ -93,6 +95,7 @@ pub(crate) fn learn(words: &Words<'_>, pass: &mut Pass, id: u32, scratch: &mut S
         &mut scratch.open_codes,
         &mut scratch.state,
         &mut scratch.next,
+        &mut scratch.hints,
         &mut scratch.kept,
     );
     let witness = scratch.witness.take();

@@ -2,6 +2,7 @@
 //! state's own bounds are narrowed by the Bellman equation.
 #![tactic(auto)]
 
+mod action_weights;
 mod backing;
 mod best;
 mod choosing;
@@ -14,6 +15,7 @@ mod racing;
 mod recalling;
 mod scratch;
 mod settling;
+mod span;
 mod states;
 mod steps;
 mod sums;

@@ -15,7 +15,7 @@ use bound_words::interval;
 use brtdp_trial::Step;
 use ground_model::{Choice, GroundAction, State};
 use ground_step::apply;
-use state_interner::{Interned, intern};
+use state_interner::{Hints, Interned, intern_near};
 use word_table::{Pass, Words};
 
 /// A choice that leads to a state with this id, with what is read of it.
@@ -36,14 +36,20 @@ pub(crate) fn read_id(words: &Words<'_>, pass: &mut Pass, weight: u64, id: u32) 
 }
 
 /// A choice that leads to a state, with what is read of that state.
-fn read_next(words: &Words<'_>, pass: &mut Pass, weight: u64, next: &State) -> Step
+fn read_next(
+    words: &Words<'_>,
+    pass: &mut Pass,
+    weight: u64,
+    next: &State,
+    hints: &mut Hints,
+) -> Step
     requires here { IsOf words.now pass.old }
     requires right { 0 < pass.old.view.rights }
     requires reached { IsReached pass.old.view next.now }
     ensures keeps { Keeps words.now pass.old pass.new }
     ensures read { HasReadNext words.now.problem pass.old.view pass.new.view next.now weight result }
 {
-    match intern(words, pass, next) {
+    match intern_near(words, pass, next, hints) {
         Interned::Id(id) => read_id(words, pass, weight, id),
         Interned::Full => Step {
             weight,
@@ -61,6 +67,7 @@ pub(crate) fn read_action(
     action: &GroundAction,
     state: &State,
     next: &mut State,
+    hints: &mut Hints,
     steps: &mut Steps,
 ) -> Sums
     requires here { IsOf words.now pass.old }
@@ -76,7 +83,7 @@ pub(crate) fn read_action(
     let mut sums = Sums::ZERO;
     for choice in action.choices.as_slice() {
         let cost = apply(choice, state, next);
-        let step = read_next(words, pass, choice.weight, next);
+        let step = read_next(words, pass, choice.weight, next, hints);
         sums = sums.with(cost, &step);
         steps.push(step);
     }

@@ -1,6 +1,6 @@
 //! Ids whose transitions are kept.
 
-ghost use Rattle.std.specs.Prelude.{◌≡◌, ◌<◌, ◌≤◌, ◌+◌, Some, length};
+ghost use Rattle.std.specs.Prelude.{◌≡◌, ◌<◌, ◌≤◌, ◌+◌, Some, length, map};
 ghost use Rattle.ground_model.specs.declared.limits.TheConstants.{MOST_PENALTY};
 ghost use Rattle.ground_model.specs.Packed.{State};
 ghost use Rattle.ground_model.specs.Invariant.{IsAction, IsGroundProblem};
@@ -10,12 +10,15 @@ ghost use Rattle.word_view.specs.Laws.{HasMore};
 ghost use Rattle.word_table.specs.Seen.{IsOf};
 ghost use Rattle.word_rule.specs.Told.{HasOneEach, HasOneState};
 ghost use Rattle.bellman_backup.specs.Scratches.{IsScratchOf};
+ghost use Rattle.bellman_backup.specs.Candidates.{choice_weights};
+ghost use Rattle.bellman_backup.specs.Odds.{odds_of};
 ghost use Rattle.bellman_backup.specs.Backups.{Keeps};
 ghost use Rattle.bellman_backup.specs.Choosing.{HasChosen};
 ghost use Rattle.bellman_backup.specs.Kept.{IsKeptAction, AreKept};
 ghost use Rattle.bellman_backup.specs.Totals.{HasReadAction};
 ghost use Rattle.bellman_backup.specs.Weighing.{WeighTells};
 
+use crate::action_weights::ActionWeights;
 use crate::best::{Best, take_in};
 use crate::learning::learn;
 use crate::outcomes::read_id;
@@ -35,6 +38,7 @@ fn read_kept(
     words: &Words<'_>,
     pass: &mut Pass,
     action: &GroundAction,
+    weights: &[u64],
     kept: &KeptAction,
     ids: &[u32],
     steps: &mut Steps,
@@ -42,6 +46,7 @@ fn read_kept(
     requires here { IsOf words.now pass.old }
     requires action { IsAction (length words.now.problem.atoms) action.now }
     requires penalty { words.now.problem.penalty ≤ MOST_PENALTY }
+    requires weights { weights.now ≡ choice_weights action.now.choices }
     requires kept { (s : State) × IsKeptAction pass.old.view s ids.now action.now kept.now }
     ensures keeps { Keeps words.now pass.old pass.new }
     ensures read { (s : State) → IsKeptAction pass.old.view s ids.now action.now kept.now
@@ -53,9 +58,8 @@ fn read_kept(
         lower: cost,
         upper: cost,
     };
-    let choices = action.choices.as_slice();
-    for index in 0..choices.len() {
-        let weight = choices[index].weight;
+    for index in 0..weights.len() {
+        let weight = weights[index];
         let id = ids[kept.first as usize + index];
         let step = read_id(words, pass, weight, id);
         sums = sums.with(0, &step);
@@ -71,11 +75,13 @@ fn best_of_kept(
     pass: &mut Pass,
     row: KeptRow,
     kept: &Kept,
+    weights: &ActionWeights,
     tried: &mut Steps,
     chosen: &mut Steps,
 ) -> Best
     requires here { IsOf words.now pass.old }
     requires kept { (s : State) × AreKept pass.old.view s words.now.problem kept.now row }
+    requires weights { weights.now ≡ map odds_of words.now.problem.actions }
     ensures problem { IsGroundProblem words.now.problem }
     ensures keeps { Keeps words.now pass.old pass.new }
     ensures best { let g = words.now.problem in (s : State) → AreKept pass.old.view s g kept.now row
@@ -93,8 +99,9 @@ fn best_of_kept(
     for index in 0..row.past - row.first {
         let own = kept.action(row.first + index);
         let action = &problem.actions()[own.code as usize];
-        let sums = read_kept(words, pass, action, &own, kept.ids(), tried);
-        best = take_in(best, own.code, action.den, sums, tried, chosen);
+        let shares = weights.weights(own.code);
+        let sums = read_kept(words, pass, action, shares, &own, kept.ids(), tried);
+        best = take_in(best, own.code, weights.den(own.code), sums, tried, chosen);
     }
     best
 }
@@ -144,6 +151,7 @@ fn weigh_learnt(
         pass,
         row,
         &scratch.kept,
+        &scratch.weights,
         &mut scratch.tried,
         &mut scratch.chosen,
     );

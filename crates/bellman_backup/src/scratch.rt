@@ -6,27 +6,31 @@ ghost use Rattle.bound_core.specs.Core.{width};
 ghost use Rattle.brtdp_trial.specs.Meaning.{IsAnswerOf};
 ghost use Rattle.bellman_backup.specs.Scratches.{new_scratch};
 
+use crate::action_weights::ActionWeights;
 use crate::steps::Steps;
 use brtdp_trial::{Backed, GIVE_UP, Step};
 use ground_model::{GroundProblem, List, State};
 use kept_transitions::Kept;
 use open_actions::{OpenActions, OpenCodes};
+use state_interner::Hints;
 use std::alloc::{AllocError, Global};
 use std::marker::Model;
 use word_table::Pass;
 
-/// Buffers of the problem's greatest sizes, so that a backup takes no memory, the index of its actions, and the
-/// transitions that are kept of states that were backed up. Contracts see the problem, what the last backup
-/// answered, with the choices as they were read, and the witness.
+/// Buffers of the problem's greatest sizes, so that a backup takes no memory, the index of its actions and their
+/// weights, hints where states stand, and the transitions that are kept of states that were backed up. Contracts see
+/// the problem, what the last backup answered, with the choices as they were read, and the witness.
 ///
 /// What is kept rests on what was noted of the ids. The witness is a pass without rights that has noted it, so a
 /// pass that meets the witness has noted it too.
 #[derive(Drop)]
 pub struct Scratch<'p> {
     pub(crate) index: OpenActions<'p>,
+    pub(crate) weights: ActionWeights,
     pub(crate) open_codes: OpenCodes,
     pub(crate) state: State,
     pub(crate) next: State,
+    pub(crate) hints: Hints,
     pub(crate) tried: Steps,
     pub(crate) chosen: Steps,
     pub(crate) code: u16,
@@ -36,11 +40,13 @@ pub struct Scratch<'p> {
 }
 
 impl<'p> Model for Scratch<'p> {
+    ghost use Rattle.std.specs.Prelude.{◌≡◌, map};
     ghost use Rattle.std.specs.Coded.{codes};
     ghost use Rattle.ground_model.specs.contracts.condition.GroundCondition as condition;
     ghost use Rattle.brtdp_trial.specs.Listed.{last_in};
     ghost use Rattle.bellman_backup.specs.Scratches.{ScratchView, AreBuffers};
     ghost use Rattle.bellman_backup.specs.Kept.{IsKeeping};
+    ghost use Rattle.bellman_backup.specs.Odds.{odds_of};
 
     ghost Value = { ScratchView };
 
@@ -49,7 +55,7 @@ impl<'p> Model for Scratch<'p> {
     ghost view = { λ s. record { problem = s.index; last = last_in s.code s.den s.chosen; witness = s.witness } };
 
     ghost invariant = { λ s. AreBuffers s.index s.open_codes s.state s.next
-        × IsKeeping s.index s.witness s.kept };
+        × IsKeeping s.index s.witness s.kept × (s.weights ≡ map odds_of (s.index).actions) };
 }
 
 /// A state of the problem's length.
@@ -75,9 +81,11 @@ impl<'p> Scratch<'p> {
     {
         Ok(Scratch {
             index: OpenActions::new(alloc, problem)?,
+            weights: ActionWeights::new(alloc, problem)?,
             open_codes: OpenCodes::new(alloc, problem)?,
             state: blank_state(alloc, problem)?,
             next: blank_state(alloc, problem)?,
+            hints: Hints::make(alloc, ids)?,
             tried: Steps::new(alloc)?,
             chosen: Steps::new(alloc)?,
             code: GIVE_UP,

@@ -1,6 +1,6 @@
 //! The backup of an id whose answer is not asked for.
 
-ghost use Rattle.std.specs.Prelude.{◌≡◌, ◌<◌, ◌≤◌, ◌/◌, length};
+ghost use Rattle.std.specs.Prelude.{◌≡◌, ◌<◌, ◌≤◌, ◌/◌, length, map};
 ghost use Rattle.ground_model.specs.declared.limits.TheConstants.{MOST_PENALTY};
 ghost use Rattle.ground_model.specs.Packed.{State};
 ghost use Rattle.ground_model.specs.Invariant.{IsAction, IsGroundProblem};
@@ -9,10 +9,13 @@ ghost use Rattle.word_view.specs.Views.{knows, noted_lower, noted_upper, CanRais
 ghost use Rattle.word_rule.specs.Told.{HasOneEach};
 ghost use Rattle.word_table.specs.Seen.{IsOf};
 ghost use Rattle.bellman_backup.specs.Scratches.{IsScratchOf};
+ghost use Rattle.bellman_backup.specs.Candidates.{choice_weights};
+ghost use Rattle.bellman_backup.specs.Odds.{odds_of};
 ghost use Rattle.bellman_backup.specs.Backups.{Keeps, Narrows};
 ghost use Rattle.bellman_backup.specs.Kept.{IsKeptAction, AreKept};
 ghost use Rattle.bellman_backup.specs.Leasts.{HasSummed, HasLeast, CanNarrow};
 
+use crate::action_weights::ActionWeights;
 use crate::backing::backup;
 use crate::least::Least;
 use crate::mean::Mean;
@@ -31,12 +34,14 @@ fn sum_kept(
     words: &Words<'_>,
     pass: &mut Pass,
     action: &GroundAction,
+    weights: &[u64],
     kept: &KeptAction,
     ids: &[u32],
 ) -> Sums
     requires here { IsOf words.now pass.old }
     requires action { IsAction (length words.now.problem.atoms) action.now }
     requires penalty { words.now.problem.penalty ≤ MOST_PENALTY }
+    requires weights { weights.now ≡ choice_weights action.now.choices }
     requires kept { (s : State) × IsKeptAction pass.old.view s ids.now action.now kept.now }
     ensures keeps { Keeps words.now pass.old pass.new }
     ensures summed { let g = words.now.problem
@@ -47,9 +52,8 @@ fn sum_kept(
         lower: cost,
         upper: cost,
     };
-    let choices = action.choices.as_slice();
-    for index in 0..choices.len() {
-        let weight = choices[index].weight;
+    for index in 0..weights.len() {
+        let weight = weights[index];
         let id = ids[kept.first as usize + index];
         let step = read_id(words, pass, weight, id);
         sums = sums.with(0, &step);
@@ -64,10 +68,12 @@ fn least_of_kept(
     pass: &mut Pass,
     row: KeptRow,
     kept: &Kept,
+    weights: &ActionWeights,
     first: UpperWord,
 ) -> Least
     requires here { IsOf words.now pass.old }
     requires kept { (s : State) × AreKept pass.old.view s words.now.problem kept.now row }
+    requires weights { weights.now ≡ map odds_of words.now.problem.actions }
     requires first { first ≤ quit_word words.now.problem.penalty }
     ensures problem { IsGroundProblem words.now.problem }
     ensures keeps { Keeps words.now pass.old pass.new }
@@ -86,8 +92,9 @@ fn least_of_kept(
     for index in 0..row.past - row.first {
         let own = kept.action(row.first + index);
         let action = &problem.actions()[own.code as usize];
-        let sums = sum_kept(words, pass, action, &own, kept.ids());
-        least = least.with(sums, action.den, own.code);
+        let shares = weights.weights(own.code);
+        let sums = sum_kept(words, pass, action, shares, &own, kept.ids());
+        least = least.with(sums, weights.den(own.code), own.code);
     }
     least
 }
@@ -169,6 +176,6 @@ pub fn narrow(words: &Words<'_>, pass: &mut Pass, id: u32, scratch: &mut Scratch
     };
     recall(words, pass, &mut witness);
     scratch.witness = Some(witness);
-    let least = least_of_kept(words, pass, row, &scratch.kept, upper);
+    let least = least_of_kept(words, pass, row, &scratch.kept, &scratch.weights, upper);
     narrow_from(words, pass, id, lower, upper, least);
 }

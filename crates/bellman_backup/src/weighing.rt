@@ -44,6 +44,7 @@ pub(crate) fn weigh(
         scratch.open_codes.as_slice(),
         &scratch.state,
         &mut scratch.next,
+        &mut scratch.hints,
         &mut scratch.tried,
         &mut scratch.chosen,
     );

@@ -13,7 +13,9 @@ use Rattle.word_rule.specs.Told.{TellsCount}
 use Rattle.word_table.specs.Seen.{Board, Knowledge, HasMoved, knowledge}
 use Rattle.state_interner.specs.declared.turn.Turn.{Turn}
 use Rattle.state_interner.specs.declared.turn.Turn.TheVariants.{Own, Other, Free}
-use Rattle.state_interner.specs.Interned.{HasLooked, GoesOn, IsMissing, IsFull}
+use Rattle.state_interner.specs.declared.interned.Interned.{Interned}
+use Rattle.state_interner.specs.declared.interned.Interned.TheVariants.{Id, Full}
+use Rattle.state_interner.specs.Interned.{HasLooked, GoesOn, IsMissing, IsFull, InternTells}
 use Rattle.state_interner.specs.Turns.{TurnTells, WritesDraft, HasOwn, IsEnd}
 use Rattle.state_interner.proofs.Going.{goes_then, count_goes, spare_goes, draft_goes, count_looks, looked_since, looked_still}
 use Rattle.state_interner.proofs.Turns.{clear_later, reached_later}
@@ -116,6 +118,11 @@ full_since b old now s w goes full = record {
   count = full.count;
   spare = full.spare;
 }
+
+pub tells_since : (b : Board) (old now : Knowledge) (s : State) (found : Interned) (w : View) → GoesOn b old now
+    → InternTells now.view s found w → InternTells old.view s found w
+tells_since b old now s (Id id) w goes told = told
+tells_since b old now s Full w goes told = full_since b old now s w goes told
 
 pub tells_else : (p q : Type 0) (s : State) (bucket : ℕ) (t : Turn) (v : View) → (p → q) → TurnTells p s bucket t v → TurnTells q s bucket t v
 tells_else p q s bucket (Own id) v then told = told

@@ -14,7 +14,7 @@ use Rattle.word_view.proofs.Lists.{is_first}
 use Rattle.word_view.proofs.Noting.{noted_is_more, has_word_right}
 use Rattle.word_table.specs.Seen.{Board, Knowledge, IsOf, knowledge}
 use Rattle.state_interner.specs.Interned.{AddsLooks, HasLooked, GoesOn}
-use Rattle.state_interner.specs.Turns.{with_words, with_draft}
+use Rattle.state_interner.specs.Turns.{with_words, with_draft, NotesWords}
 
 -- ---- looks
 
@@ -125,3 +125,10 @@ module _ (b : Board) (old new : Knowledge) (here : IsOf b old) where
       goes_to (with_words ns v) is
       record { problem = refl; layout = refl; known = λ id h. h; held = λ n h. h; words = has_word_right ns v.words; lower = λ n h. h; upper = λ n h. h }
       refl refl (omega arith) refl ([], refl)
+
+-- a bucket that holds an id, words of whose state are then noted
+pub held_words_go : (b : Board) (old mid new : Knowledge) → IsOf b old → (bucket id : ℕ) → mid ≡ knowledge old.table (with_held old.view bucket id)
+    → NotesWords mid new → GoesOn b old new
+held_words_go b old mid new here bucket id is notes =
+    let held = held_goes b old mid here bucket id is in
+    goes_then b old mid new held (words_goes b mid new held.here notes.0 notes.1)

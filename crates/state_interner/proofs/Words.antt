@@ -28,6 +28,11 @@ has_words_of ns id place (x ∷ xs) each = both (has_word ns id place x) (has_wo
     (has_words_of ns id (place + 1) xs
     (λ i below. subst (λ p. IsTrue (has_word ns id p (get_or xs i 0))) (omega arith) (each (suc i) (omega arith))))
 
+pub notes_more : (old now new : Knowledge) (id place x : ℕ) → NotesWords old now
+    → new ≡ knowledge now.table (with_state_word now.view id place x) → NotesWords old new
+notes_more old now new id place x (ns, seen) is =
+    (state_word id place x ∷ ns, is ∙ ap (λ (k : Knowledge). knowledge k.table (with_state_word k.view id place x)) seen)
+
 -- the words before this place are noted to be those of s
 pub record Compares (old now : Knowledge) (id : ℕ) (s : State) (place : ℕ) : Type 0 where
   pub seen : NotesWords old now
@@ -36,7 +41,7 @@ pub record Compares (old now : Knowledge) (id : ℕ) (s : State) (place : ℕ) :
 module _ (old now new : Knowledge) (id : ℕ) (s : State) (place x : ℕ) (so_far : Compares old now id s place)
     (is : new ≡ knowledge now.table (with_state_word now.view id place x)) where
   pub one_word_more : NotesWords old new
-  one_word_more = (state_word id place x ∷ so_far.seen.0, is ∙ ap (λ (k : Knowledge). knowledge k.table (with_state_word k.view id place x)) so_far.seen.1)
+  one_word_more = notes_more old now new id place x so_far.seen is
 
   found : (p y : ℕ) → p ≡ place → y ≡ x → IsTrue (has_word new.view.words id p y)
   found p y at same = subst (λ (k : Knowledge). IsTrue (has_word k.view.words id p y)) (sym is)

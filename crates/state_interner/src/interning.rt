@@ -34,6 +34,31 @@ fn take_turn(words: &Words<'_>, pass: &mut Pass, bucket: u32, state: &State) -> 
     }
 }
 
+/// Walks over the run of a state to its id, as `intern` does. The second number is the bucket where the walk
+/// ended.
+pub(crate) fn walk(words: &Words<'_>, pass: &mut Pass, state: &State) -> (Interned, u32)
+    requires here { IsOf words.now pass.old }
+    requires reached { IsReached pass.old.view state.now }
+    requires right { 0 < pass.old.view.rights }
+    ensures goes_on { GoesOn words.now pass.old pass.new }
+    ensures told { InternTells pass.old.view state.now result.0 pass.new.view }
+{
+    let buckets = words.buckets();
+    let first = (hash(state) % u64::from(buckets)) as u32;
+    for turn in 0..buckets {
+        let bucket = (first + turn) % buckets;
+        match take_turn(words, pass, bucket, state) {
+            Turn::Own(id) => {
+                sink_goal(words, pass, id, state);
+                return (Interned::Id(id), bucket);
+            }
+            Turn::Other => {}
+            Turn::Free => return (Interned::Full, bucket),
+        }
+    }
+    unreachable!()
+}
+
 /// The id of a successor of a state that the pass has. A state that has none gets the pass's spare or the
 /// next id; `Full`: there is neither. The upper word of a goal is sunk before its id is answered.
 pub fn intern(words: &Words<'_>, pass: &mut Pass, state: &State) -> Interned
@@ -43,17 +68,5 @@ pub fn intern(words: &Words<'_>, pass: &mut Pass, state: &State) -> Interned
     ensures goes_on { GoesOn words.now pass.old pass.new }
     ensures told { InternTells pass.old.view state.now result pass.new.view }
 {
-    let buckets = words.buckets();
-    let first = (hash(state) % u64::from(buckets)) as u32;
-    for turn in 0..buckets {
-        match take_turn(words, pass, (first + turn) % buckets, state) {
-            Turn::Own(id) => {
-                sink_goal(words, pass, id, state);
-                return Interned::Id(id);
-            }
-            Turn::Other => {}
-            Turn::Free => return Interned::Full,
-        }
-    }
-    unreachable!()
+    walk(words, pass, state).0
 }

@@ -3,15 +3,22 @@
 
 mod agreeing;
 mod claiming;
+mod filling;
 mod finding;
 mod goals;
+mod hint;
+mod hints;
 mod interned;
 mod interning;
 mod looking;
+mod mixing;
+mod nearing;
 mod putting;
 mod turn;
 
 pub use agreeing::agree;
 pub use finding::find;
+pub use hints::Hints;
 pub use interned::Interned;
 pub use interning::intern;
+pub use nearing::intern_near;

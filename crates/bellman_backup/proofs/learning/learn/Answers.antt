@@ -19,4 +19,5 @@ invariant_of-scratch c =
       c.find_row-row.ensures.buffers,
       subst (λ (x : Transitions). IsKeeping g (Some w) x) (sym c.set_row.ensures)
           (keeping_more g old k w t u c.args.id row c.find_row-row.ensures.grown c.scratch.invariant.1 stays c.with_news.ensures.heard new),
+      c.scratch.invariant.2,
     )

@@ -1,9 +1,14 @@
-use Rattle.std.proofs.Common.{◌≡◌, length, take, sym, ap, ◌∙◌, subst, arith}
+use Rattle.std.proofs.Common.{◌≡◌, ◌/◌, min, length, take, sym, ap, ◌∙◌, subst, arith}
+use Rattle.std.specs.Int.{div_ceil}
 use Rattle.std.proofs.lemmas.List.{take_more}
+use Rattle.fixed_round.specs.Words.{word_of}
 use Rattle.ground_model.specs.Ground.{Ground}
 use Rattle.ground_model.specs.Invariant.{IsGroundProblem}
 use Rattle.ground_model.specs.Steps.{ground_process}
+use Rattle.brtdp_trial.specs.Listed.{last_in}
 use Rattle.bellman_backup.specs.Kept.{IsKeptAction}
+use Rattle.bellman_backup.specs.Odds.{odds_of}
+use Rattle.bellman_backup.proofs.PlacedWeights.{odds_at, odds_within}
 use Rattle.bellman_backup.proofs.KeptReads.{is_inside, is_own_at, is_action_at, chosen_goes_on}
 use Rattle.bellman_backup.proofs.Finishing.{word_within}
 use Rattle.bellman_backup.proofs.recalling.best_of_kept.Goals as goal
@@ -38,6 +43,35 @@ bounds-actions-own c =
     = c.actions.ensures.value ∙ ap (λ (p : Ground). p.actions) c.problem-problem.ensures in
     let n = ap length same in let coded = is.coded in omega arith
 
+pub weights-shares-requires : goal.weights-shares-requires
+weights-shares-requires c =
+    let b = c.args.words.now in let l = c.loop-index.pass in let s = c.requires.kept.0 in
+    let t = c.args.kept.now in let row = c.args.row in let i = c.loop-index.index in let own = c.action-own.result in
+    let is = is_own_at b c.args.pass.now l s t row i own c.loop-index.invariant.keeps.noted c.requires.kept.1
+    (let q = c.loop-index-test.true in omega arith) c.action-own.ensures in
+    odds_within b.problem.actions c.args.weights.now c.requires.weights own.code is.coded
+
+pub read_kept-sums-requires-clause-weights : goal.read_kept-sums-requires-clause-weights
+read_kept-sums-requires-clause-weights c =
+    let b = c.args.words.now in let l = c.loop-index.pass in let s = c.requires.kept.0 in
+    let t = c.args.kept.now in let row = c.args.row in let i = c.loop-index.index in let own = c.action-own.result in
+    let is = is_own_at b c.args.pass.now l s t row i own c.loop-index.invariant.keeps.noted c.requires.kept.1
+    (let q = c.loop-index-test.true in omega arith) c.action-own.ensures in
+    let problem : IsGroundProblem b.problem = subst IsGroundProblem c.problem-problem.ensures c.penalty-penalty.ensures.valid in
+    let same : c.actions.result.now ≡ b.problem.actions
+    = c.actions.ensures.value ∙ ap (λ (p : Ground). p.actions) c.problem-problem.ensures in
+    let a = c.index-actions-own.result in
+    let at = is_action_at b l s t row i own is problem c.actions.result.now same a c.index-actions-own.is in
+    c.weights-shares.ensures (odds_of a) (odds_at b.problem.actions c.args.weights.now c.requires.weights own.code a at.coded)
+
+pub den-requires : goal.den-requires
+den-requires c =
+    let b = c.args.words.now in let l = c.loop-index.pass in let s = c.requires.kept.0 in
+    let t = c.args.kept.now in let row = c.args.row in let i = c.loop-index.index in let own = c.action-own.result in
+    let is = is_own_at b c.args.pass.now l s t row i own c.loop-index.invariant.keeps.noted c.requires.kept.1
+    (let q = c.loop-index-test.true in omega arith) c.action-own.ensures in
+    odds_within b.problem.actions c.args.weights.now c.requires.weights own.code is.coded
+
 pub read_kept-sums-requires-clause-action : goal.read_kept-sums-requires-clause-action
 read_kept-sums-requires-clause-action c =
     let b = c.args.words.now in let l = c.loop-index.pass in let s = c.requires.kept.0 in
@@ -71,7 +105,9 @@ take_in-best-requires-clause-den c =
     let problem : IsGroundProblem b.problem = subst IsGroundProblem c.problem-problem.ensures c.penalty-penalty.ensures.valid in
     let same : c.actions.result.now ≡ b.problem.actions
     = c.actions.ensures.value ∙ ap (λ (p : Ground). p.actions) c.problem-problem.ensures in
-    let at = is_action_at b l s t row i own is problem c.actions.result.now same c.index-actions-own.result c.index-actions-own.is in
+    let a = c.index-actions-own.result in
+    let at = is_action_at b l s t row i own is problem c.actions.result.now same a c.index-actions-own.is in
+    let den : c.den.result ≡ a.den = c.den.ensures (odds_of a) (odds_at b.problem.actions c.args.weights.now c.requires.weights own.code a at.coded) in
     let above = at.is.weights.den_above in omega arith
 
 pub take_in-best-requires-clause-bound : goal.take_in-best-requires-clause-bound
@@ -92,6 +128,7 @@ loop-index-preserved c =
     = c.actions.ensures.value ∙ ap (λ (p : Ground). p.actions) c.problem-problem.ensures in
     let a = c.index-actions-own.result in
     let at = is_action_at b l s t row i own is problem c.actions.result.now same a c.index-actions-own.is in
+    let den : c.den.result ≡ a.den = c.den.ensures (odds_of a) (odds_at g.actions c.args.weights.now c.requires.weights own.code a at.coded) in
     let d = c.take_in-best.ensures in
     chosen_goes_on b k l c.read_kept-sums.new.pass t row c.loop-index.chosen c.take_in-best.new.chosen c.read_kept-sums.new.steps c.loop-index.best c.take_in-best.result i own a
     c.read_kept-sums.result c.loop-index.invariant c.read_kept-sums.ensures.keeps
@@ -99,7 +136,9 @@ loop-index-preserved c =
     (λ z under. take_more ((ground_process g).choices z) i 0 under)
     is.here at.coded
     (λ z kept. c.read_kept-sums.ensures.read z (subst (λ zs. IsKeptAction l.view z zs a own) (sym c.ids.ensures) kept))
-    d.lower d.word d.better d.same
+    (d.lower ∙ ap (λ n. min (c.read_kept-sums.result.lower / n) c.loop-index.best.lower) den)
+    (d.word ∙ ap (λ n. min (word_of (div_ceil c.read_kept-sums.result.upper n) own.code) c.loop-index.best.word) den)
+    (λ better. d.better better ∙ ap (λ n. last_in own.code n c.read_kept-sums.new.steps) den) d.same
 
 pub returns-clause-problem : goal.returns-clause-problem
 returns-clause-problem c = subst IsGroundProblem c.problem-problem.ensures c.penalty-penalty.ensures.valid

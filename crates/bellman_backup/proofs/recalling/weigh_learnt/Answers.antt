@@ -1,6 +1,8 @@
-use Rattle.std.proofs.Common.{◌≡◌, Some, refl, sym, ap, ◌∙◌, subst}
+use Rattle.std.proofs.Common.{◌≡◌, Some, map, refl, sym, ap, ◌∙◌, subst}
+use Rattle.ground_model.specs.Ground.{Ground}
 use Rattle.ground_model.specs.Steps.{ground_process}
 use Rattle.kept_transitions.specs.Rows.{IsKept}
+use Rattle.bellman_backup.specs.Odds.{odds_of}
 use Rattle.bellman_backup.specs.Scratches.{ScratchView}
 use Rattle.bellman_backup.specs.Kept.{IsKeeping}
 use Rattle.bellman_backup.proofs.Keeping.{keeps_again}
@@ -18,11 +20,16 @@ best_of_kept-best-requires-clause-kept c =
     let is = row_is_recalled g p old c.in-Some.witness k1.view c.args.id t row same c.scratch.invariant.1 had kept c.row-row.ensures c.recall.ensures.heard in
     (is.state, is.actions)
 
+pub best_of_kept-best-requires-clause-weights : goal.best_of_kept-best-requires-clause-weights
+best_of_kept-best-requires-clause-weights c =
+    let same : c.scratch.inside.index ≡ c.args.words.now.problem = ap (λ (v : ScratchView). v.problem) c.scratch.view_is ∙ c.requires.scratch.problem in
+    c.scratch.invariant.2 ∙ ap (λ (p : Ground). map odds_of p.actions) same
+
 pub invariant_of-scratch : goal.invariant_of-scratch
 invariant_of-scratch c =
     let p = c.scratch.inside.index in let old = c.scratch.inside.witness in let t = c.scratch.inside.kept in
     let had : old ≡ Some c.recall.new.witness = sym c.take.ensures.value ∙ c.in-Some.is ∙ ap Some (sym c.recall.ensures.witness) in
-    (c.scratch.invariant.0, subst (λ o. IsKeeping p o t) had c.scratch.invariant.1)
+    (c.scratch.invariant.0, subst (λ o. IsKeeping p o t) had c.scratch.invariant.1, c.scratch.invariant.2)
 
 pub returns-clause-keeps : goal.returns-clause-keeps
 returns-clause-keeps c =

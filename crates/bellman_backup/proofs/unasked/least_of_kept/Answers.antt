@@ -1,10 +1,14 @@
-use Rattle.std.proofs.Common.{◌≡◌, length, sym, ap, ◌∙◌, subst, arith}
+use Rattle.std.proofs.Common.{◌≡◌, ◌/◌, min, length, sym, ap, ◌∙◌, subst, arith}
+use Rattle.std.specs.Int.{div_ceil}
 use Rattle.std.proofs.lemmas.List.{take_more}
+use Rattle.fixed_round.specs.Words.{word_of}
 use Rattle.ground_model.specs.Ground.{Ground}
 use Rattle.ground_model.specs.Invariant.{IsGroundProblem}
 use Rattle.ground_model.specs.Steps.{ground_process}
 use Rattle.bellman_backup.specs.Kept.{IsKeptAction}
 use Rattle.bellman_backup.specs.Leasts.{HasSummed}
+use Rattle.bellman_backup.specs.Odds.{odds_of}
+use Rattle.bellman_backup.proofs.PlacedWeights.{odds_at, odds_within}
 use Rattle.bellman_backup.proofs.KeptReads.{is_inside, is_own_at, is_action_at}
 use Rattle.bellman_backup.proofs.Leasts.{least_begins, least_goes_on, least_ends}
 use Rattle.bellman_backup.proofs.unasked.least_of_kept.Goals as goal
@@ -39,6 +43,35 @@ bounds-actions-own c =
     = c.actions.ensures.value ∙ ap (λ (p : Ground). p.actions) c.problem-problem.ensures in
     let n = ap length same in let coded = is.coded in omega arith
 
+pub weights-shares-requires : goal.weights-shares-requires
+weights-shares-requires c =
+    let b = c.args.words.now in let l = c.loop-index.pass in let s = c.requires.kept.0 in
+    let t = c.args.kept.now in let row = c.args.row in let i = c.loop-index.index in let own = c.action-own.result in
+    let is = is_own_at b c.args.pass.now l s t row i own c.loop-index.invariant.is.keeps.noted c.requires.kept.1
+    (let q = c.loop-index-test.true in omega arith) c.action-own.ensures in
+    odds_within b.problem.actions c.args.weights.now c.requires.weights own.code is.coded
+
+pub sum_kept-sums-requires-clause-weights : goal.sum_kept-sums-requires-clause-weights
+sum_kept-sums-requires-clause-weights c =
+    let b = c.args.words.now in let l = c.loop-index.pass in let s = c.requires.kept.0 in
+    let t = c.args.kept.now in let row = c.args.row in let i = c.loop-index.index in let own = c.action-own.result in
+    let is = is_own_at b c.args.pass.now l s t row i own c.loop-index.invariant.is.keeps.noted c.requires.kept.1
+    (let q = c.loop-index-test.true in omega arith) c.action-own.ensures in
+    let problem : IsGroundProblem b.problem = subst IsGroundProblem c.problem-problem.ensures c.penalty-penalty.ensures.valid in
+    let same : c.actions.result.now ≡ b.problem.actions
+    = c.actions.ensures.value ∙ ap (λ (p : Ground). p.actions) c.problem-problem.ensures in
+    let a = c.index-actions-own.result in
+    let at = is_action_at b l s t row i own is problem c.actions.result.now same a c.index-actions-own.is in
+    c.weights-shares.ensures (odds_of a) (odds_at b.problem.actions c.args.weights.now c.requires.weights own.code a at.coded)
+
+pub den-requires : goal.den-requires
+den-requires c =
+    let b = c.args.words.now in let l = c.loop-index.pass in let s = c.requires.kept.0 in
+    let t = c.args.kept.now in let row = c.args.row in let i = c.loop-index.index in let own = c.action-own.result in
+    let is = is_own_at b c.args.pass.now l s t row i own c.loop-index.invariant.is.keeps.noted c.requires.kept.1
+    (let q = c.loop-index-test.true in omega arith) c.action-own.ensures in
+    odds_within b.problem.actions c.args.weights.now c.requires.weights own.code is.coded
+
 pub sum_kept-sums-requires-clause-action : goal.sum_kept-sums-requires-clause-action
 sum_kept-sums-requires-clause-action c =
     let b = c.args.words.now in let l = c.loop-index.pass in let s = c.requires.kept.0 in
@@ -72,7 +105,9 @@ with-least-requires-clause-dens c =
     let problem : IsGroundProblem b.problem = subst IsGroundProblem c.problem-problem.ensures c.penalty-penalty.ensures.valid in
     let same : c.actions.result.now ≡ b.problem.actions
     = c.actions.ensures.value ∙ ap (λ (p : Ground). p.actions) c.problem-problem.ensures in
-    let at = is_action_at b l s t row i own is problem c.actions.result.now same c.index-actions-own.result c.index-actions-own.is in
+    let a = c.index-actions-own.result in
+    let at = is_action_at b l s t row i own is problem c.actions.result.now same a c.index-actions-own.is in
+    let den : c.den.result ≡ a.den = c.den.ensures (odds_of a) (odds_at b.problem.actions c.args.weights.now c.requires.weights own.code a at.coded) in
     let above = at.is.weights.den_above in (c.loop-index.invariant.den, omega arith)
 
 pub with-least-requires-clause-bound : goal.with-least-requires-clause-bound
@@ -97,13 +132,15 @@ loop-index-preserved c =
     = c.actions.ensures.value ∙ ap (λ (p : Ground). p.actions) c.problem-problem.ensures in
     let a = c.index-actions-own.result in
     let at = is_action_at b l s t row i own is problem c.actions.result.now same a c.index-actions-own.is in
+    let den : c.den.result ≡ a.den = c.den.ensures (odds_of a) (odds_at g.actions c.args.weights.now c.requires.weights own.code a at.coded) in
     let d = c.with-least.ensures in let m = c.sum_kept-sums.new.pass in
     least_goes_on b k l m t row c.args.first c.loop-index.least c.with-least.result i own a c.sum_kept-sums.result c.loop-index.invariant c.sum_kept-sums.ensures.keeps
     (λ z kept. let n = kept.count in let q = c.loop-index-test.true in omega arith)
     (λ z under. take_more ((ground_process g).choices z) i 0 under)
     is.here at.coded
     (subst (λ zs. HasSummed g l.view m.view zs a own c.sum_kept-sums.result) c.ids.ensures c.sum_kept-sums.ensures.summed)
-    d.den d.lower d.word
+    d.den (d.lower ∙ ap (λ n. min (c.sum_kept-sums.result.lower / n) (c.loop-index.least.mean.sum / c.loop-index.least.mean.den)) den)
+    (d.word ∙ ap (λ n. min (word_of (div_ceil c.sum_kept-sums.result.upper n) own.code) c.loop-index.least.word) den)
 
 pub returns-clause-problem : goal.returns-clause-problem
 returns-clause-problem c = subst IsGroundProblem c.problem-problem.ensures c.penalty-penalty.ensures.valid

@@ -1,5 +1,7 @@
-use Rattle.std.proofs.Common.{◌≡◌, Some, sym, ap, ◌∙◌, subst}
+use Rattle.std.proofs.Common.{◌≡◌, Some, map, sym, ap, ◌∙◌, subst}
+use Rattle.ground_model.specs.Ground.{Ground}
 use Rattle.kept_transitions.specs.Rows.{IsKept}
+use Rattle.bellman_backup.specs.Odds.{odds_of}
 use Rattle.bellman_backup.specs.Scratches.{ScratchView}
 use Rattle.bellman_backup.specs.Kept.{IsKeeping}
 use Rattle.bellman_backup.proofs.KeptReads.{row_is_recalled}
@@ -22,6 +24,11 @@ least_of_kept-least-requires-clause-kept c =
     let is = row_is_recalled g p old c.in-Some.witness k1.view c.args.id t row same c.scratch.invariant.1 had kept c.row-row.ensures c.recall.ensures.heard in
     (is.state, is.actions)
 
+pub least_of_kept-least-requires-clause-weights : goal.least_of_kept-least-requires-clause-weights
+least_of_kept-least-requires-clause-weights c =
+    let same : c.scratch.inside.index ≡ c.args.words.now.problem = ap (λ (v : ScratchView). v.problem) c.scratch.view_is ∙ c.requires.scratch.problem in
+    c.scratch.invariant.2 ∙ ap (λ (p : Ground). map odds_of p.actions) same
+
 pub narrow_from-requires-clause-can : goal.narrow_from-requires-clause-can
 narrow_from-requires-clause-can c =
     let b = c.args.words.now in let g = b.problem in let k = c.args.pass.now in let k0 = c.load_upper-upper.new.pass in let k1 = c.recall.new.pass in
@@ -38,7 +45,7 @@ pub invariant_of-scratch : goal.invariant_of-scratch
 invariant_of-scratch c =
     let p = c.scratch.inside.index in let old = c.scratch.inside.witness in let t = c.scratch.inside.kept in
     let had : old ≡ Some c.recall.new.witness = sym c.take.ensures.value ∙ c.in-Some.is ∙ ap Some (sym c.recall.ensures.witness) in
-    (c.scratch.invariant.0, subst (λ o. IsKeeping p o t) had c.scratch.invariant.1)
+    (c.scratch.invariant.0, subst (λ o. IsKeeping p o t) had c.scratch.invariant.1, c.scratch.invariant.2)
 
 pub returns-clause-keeps : goal.returns-clause-keeps
 returns-clause-keeps c =

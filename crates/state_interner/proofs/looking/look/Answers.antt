@@ -1,6 +1,6 @@
 -- An empty bucket, or an id whose state is compared.
 use Rattle.state_interner.specs.Interned.{IsMissing}
-use Rattle.state_interner.proofs.Going.{goes_then, empty_goes, held_goes, words_goes}
+use Rattle.state_interner.proofs.Going.{empty_goes, held_words_go}
 use Rattle.state_interner.proofs.Turns.{empty_is_missing, held_tells}
 use Rattle.state_interner.proofs.looking.look.Goals as goal
 
@@ -14,10 +14,8 @@ returns-in-None-clause-told c =
 
 pub returns-in-Some-clause-goes_on : goal.returns-in-Some-clause-goes_on
 returns-in-Some-clause-goes_on c =
-    let b = c.args.words.now in
-    let held = held_goes b c.args.pass.now c.load_bucket.new.pass c.requires.here c.args.bucket c.in-Some.id c.in-Some.ensures.some.seen in
-    goes_then b c.args.pass.now c.load_bucket.new.pass c.compare.new.pass held
-    (words_goes b c.load_bucket.new.pass c.compare.new.pass held.here c.compare.ensures.seen.0 c.compare.ensures.seen.1)
+    held_words_go c.args.words.now c.args.pass.now c.load_bucket.new.pass c.compare.new.pass c.requires.here c.args.bucket c.in-Some.id
+    c.in-Some.ensures.some.seen c.compare.ensures.seen
 
 pub returns-in-Some-clause-told : goal.returns-in-Some-clause-told
 returns-in-Some-clause-told c =

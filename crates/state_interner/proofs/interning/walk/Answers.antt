@@ -4,7 +4,7 @@ use Rattle.word_layout.specs.declared.layout.Layout.{Layout}
 use Rattle.state_interner.proofs.Going.{goes_then}
 use Rattle.state_interner.proofs.Turns.{turn_is, reached_later, reached_is_wide, walk_is_clear, walk_goes_on, walk_ends}
 use Rattle.state_interner.proofs.Claims.{full_since}
-use Rattle.state_interner.proofs.interning.intern.Goals as goal
+use Rattle.state_interner.proofs.interning.walk.Goals as goal
 
 pub take_turn-requires-clause-state : goal.take_turn-requires-clause-state
 take_turn-requires-clause-state c =

@@ -1,0 +1,6 @@
+-- The weights of the actions so far are placed.
+use Rattle.bellman_backup.proofs.PlacedWeights.{ArePlaced}
+use Rattle.bellman_backup.proofs.action_weights.ActionWeights.new.Given as goal
+
+abbrev pub invariant-loop-action : goal.invariant-loop-action
+invariant-loop-action l = ArePlaced l.action-items l.spans.items l.weights.items l.action-index

@@ -1,0 +1,85 @@
+//! Ids of states, looked for in the buckets where they were found before.
+
+ghost use Rattle.std.specs.Prelude.{◌≡◌, ◌<◌, length, IfSome};
+ghost use Rattle.word_view.specs.Views.{IsReached};
+ghost use Rattle.word_table.specs.Seen.{IsOf};
+ghost use Rattle.state_interner.specs.Interned.{GoesOn, InternTells};
+ghost use Rattle.state_interner.specs.Turns.{HasOwn};
+
+use crate::filling::fill;
+use crate::goals::sink_goal;
+use crate::hint::Hint;
+use crate::hints::{Hints, MOST_PLACES};
+use crate::interned::Interned;
+use crate::interning::walk;
+use crate::looking::compare;
+use crate::mixing::mix_state;
+use crate::turn::Turn;
+use ground_model::State;
+use word_table::{Pass, Words, load_bucket};
+
+/// The id that a bucket holds, where the state is that of the id. The bucket may be any number.
+fn try_bucket(words: &Words<'_>, pass: &mut Pass, bucket: u32, state: &State) -> Option<u32>
+    requires here { IsOf words.now pass.old }
+    requires state { length state.now ≡ words.now.layout.width }
+    ensures goes_on { GoesOn words.now pass.old pass.new }
+    ensures told { IfSome result (HasOwn pass.new.view state.now) }
+{
+    if bucket >= words.buckets() {
+        return None;
+    }
+    let held = load_bucket(words, pass, bucket)?;
+    match compare(words, pass, held, state) {
+        Turn::Own(id) => Some(id),
+        _ => None,
+    }
+}
+
+/// The id of a state with this hash, where a hint leads to it.
+fn find_near(
+    words: &Words<'_>,
+    pass: &mut Pass,
+    state: &State,
+    hints: &Hints,
+    hash: u64,
+) -> Option<u32>
+    requires here { IsOf words.now pass.old }
+    requires state { length state.now ≡ words.now.layout.width }
+    ensures goes_on { GoesOn words.now pass.old pass.new }
+    ensures told { IfSome result (HasOwn pass.new.view state.now) }
+{
+    for turn in 0..MOST_PLACES {
+        match hints.hint(hash, turn) {
+            Hint::Bucket(bucket) => {
+                if let Some(id) = try_bucket(words, pass, bucket, state) {
+                    return Some(id);
+                }
+            }
+            Hint::Other => {}
+            Hint::End => return None,
+        }
+    }
+    None
+}
+
+/// As `intern`, by the hints first. Where no hint leads to the state its run is walked, and the bucket where it
+/// stands is noted. The hints are filled from the table at their first use.
+pub fn intern_near(words: &Words<'_>, pass: &mut Pass, state: &State, hints: &mut Hints) -> Interned
+    requires here { IsOf words.now pass.old }
+    requires reached { IsReached pass.old.view state.now }
+    requires right { 0 < pass.old.view.rights }
+    ensures goes_on { GoesOn words.now pass.old pass.new }
+    ensures told { InternTells pass.old.view state.now result pass.new.view }
+{
+    fill(words, pass, hints);
+    let hash = mix_state(state);
+    if let Some(id) = find_near(words, pass, state, hints, hash) {
+        sink_goal(words, pass, id, state);
+        return Interned::Id(id);
+    }
+    let (found, bucket) = walk(words, pass, state);
+    if let Interned::Id(_) = found {
+        hints.note(hash, bucket);
+    }
+    found
+}
