@@ -38,6 +38,8 @@ pub fn solve<R: Threads + Sync, G: Gate>(
     } = open(alloc, problem, sizes)?;
     let mut crew = make_crew(alloc, &words, pass, sizes.workers, effort.depth)?;
     let solved = solve_words(rt, &words, &mut crew, &explored, effort, gate);
+    // The list takes as much memory as the states that are handed out.
+    drop(explored);
     let image = finish(alloc, words, crew.dismiss())?;
     Ok(Closing {
         image,

@@ -64,6 +64,8 @@ pub fn serve<R: Threads + Sync, I: Source, O: Sink, G: Gate>(
         &mut looking,
         &mut buffer,
     );
+    // The list takes as much memory as the states that are handed out.
+    drop(explored);
     let mut pass = crew.dismiss();
     // What the server has seen is kept, so that nothing is wider in the end than a line that told of it.
     join(&words, &mut pass, looking);
