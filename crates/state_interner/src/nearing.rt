@@ -16,6 +16,7 @@ use crate::looking::compare;
 use crate::mixing::mix_state;
 use crate::turn::Turn;
 use ground_model::State;
+use ground_step::hash;
 use word_table::{Pass, Words, load_bucket};
 
 /// The id that a bucket holds, where the state is that of the id. The bucket may be any number.
@@ -35,21 +36,16 @@ fn try_bucket(words: &Words<'_>, pass: &mut Pass, bucket: u32, state: &State) ->
     }
 }
 
-/// The id of a state with this hash, where a hint leads to it.
-fn find_near(
-    words: &Words<'_>,
-    pass: &mut Pass,
-    state: &State,
-    hints: &Hints,
-    hash: u64,
-) -> Option<u32>
+/// The id of a state, where a hint leads to it.
+fn find_by_hints(words: &Words<'_>, pass: &mut Pass, state: &State, hints: &Hints) -> Option<u32>
     requires here { IsOf words.now pass.old }
     requires state { length state.now ≡ words.now.layout.width }
     ensures goes_on { GoesOn words.now pass.old pass.new }
     ensures told { IfSome result (HasOwn pass.new.view state.now) }
 {
+    let mixed = mix_state(state);
     for turn in 0..MOST_PLACES {
-        match hints.hint(hash, turn) {
+        match hints.hint(mixed, turn) {
             Hint::Bucket(bucket) => {
                 if let Some(id) = try_bucket(words, pass, bucket, state) {
                     return Some(id);
@@ -62,8 +58,23 @@ fn find_near(
     None
 }
 
-/// As `intern`, by the hints first. Where no hint leads to the state its run is walked, and the bucket where it
-/// stands is noted. The hints are filled from the table at their first use.
+/// The id of a state, where it stands in the first bucket of its run or a hint leads to it. Where states spread well
+/// most stand in their first bucket.
+fn find_near(words: &Words<'_>, pass: &mut Pass, state: &State, hints: &Hints) -> Option<u32>
+    requires here { IsOf words.now pass.old }
+    requires state { length state.now ≡ words.now.layout.width }
+    ensures goes_on { GoesOn words.now pass.old pass.new }
+    ensures told { IfSome result (HasOwn pass.new.view state.now) }
+{
+    let first = (hash(state) % u64::from(words.buckets())) as u32;
+    if let Some(id) = try_bucket(words, pass, first, state) {
+        return Some(id);
+    }
+    find_by_hints(words, pass, state, hints)
+}
+
+/// As `intern`, by the first bucket and the hints. Where none of them leads to the state its run is walked, and the
+/// bucket where it stands is noted. The hints are filled from the table at their first use.
 pub fn intern_near(words: &Words<'_>, pass: &mut Pass, state: &State, hints: &mut Hints) -> Interned
     requires here { IsOf words.now pass.old }
     requires reached { IsReached pass.old.view state.now }
@@ -72,14 +83,13 @@ pub fn intern_near(words: &Words<'_>, pass: &mut Pass, state: &State, hints: &mu
     ensures told { InternTells pass.old.view state.now result pass.new.view }
 {
     fill(words, pass, hints);
-    let hash = mix_state(state);
-    if let Some(id) = find_near(words, pass, state, hints, hash) {
+    if let Some(id) = find_near(words, pass, state, hints) {
         sink_goal(words, pass, id, state);
         return Interned::Id(id);
     }
     let (found, bucket) = walk(words, pass, state);
     if let Interned::Id(_) = found {
-        hints.note(hash, bucket);
+        hints.note(mix_state(state), bucket);
     }
     found
 }

@@ -1,6 +1,6 @@
 -- The pass has gone on.
 use Rattle.state_interner.specs.Interned.{GoesOn}
-use Rattle.state_interner.proofs.nearing.find_near.Given as goal
+use Rattle.state_interner.proofs.nearing.find_by_hints.Given as goal
 
 abbrev pub invariant-loop-turn : goal.invariant-loop-turn
 invariant-loop-turn l = GoesOn l.words l.fn.pass l.pass
