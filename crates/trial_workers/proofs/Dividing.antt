@@ -1,5 +1,5 @@
 -- A worker's part of a round.
-use Rattle.std.proofs.Common.{◌≡◌, ℕ, Option, Some, refl}
+use Rattle.std.proofs.Common.{ℕ, Option, Some, refl}
 use Rattle.word_table.specs.Seen.{Board, Knowledge}
 use Rattle.bellman_backup.specs.Scratches.{ScratchView, IsScratchOf}
 use Rattle.trial_workers.specs.declared.effort.Effort.{Effort}

@@ -30,7 +30,7 @@ zip_from R [] (y ∷ ys) same each = absurd (omega arith)
 zip_from R (x ∷ xs) [] same each = absurd (omega arith)
 zip_from R (x ∷ xs) (y ∷ ys) same each = (each 0 x (omega arith), zip_from R xs ys (omega arith) (λ k d below. each (suc k) d (omega arith)))
 
-zip_weaker : {X : Type 0} (R Q : X → X → Type 0) (xs ys : List X) → ((x y : X) → R x y → Q x y) → AllZip R xs ys → AllZip Q xs ys
+pub zip_weaker : {X : Type 0} (R Q : X → X → Type 0) (xs ys : List X) → ((x y : X) → R x y → Q x y) → AllZip R xs ys → AllZip Q xs ys
 zip_weaker R Q [] [] weaker z = z
 zip_weaker R Q [] (y ∷ ys) weaker z = absurd z
 zip_weaker R Q (x ∷ xs) [] weaker z = absurd z

@@ -1,6 +1,6 @@
 //! The workers' parts of a round.
 
-ghost use Rattle.std.specs.Prelude.{◌≡◌, ◌≤◌, ◌<◌, ℕ, length, All};
+ghost use Rattle.std.specs.Prelude.{◌≡◌, ◌≤◌, ℕ, length, All};
 ghost use Rattle.std.specs.List.{AllZip};
 ghost use Rattle.trial_workers.specs.Workers.{CanTakePart, HasTakenPart};
 
@@ -9,7 +9,8 @@ use crate::sweeping::sweep;
 use crate::trying::try_all;
 use crate::worker::Worker;
 use shelf_io::Gate;
-use std::thread::{Threads, for_each_mut};
+use std::thread::Threads;
+use threaded_calls::call_each;
 use word_table::Words;
 
 /// A worker's part: it backs up its ids and then makes its trials.
@@ -26,8 +27,7 @@ fn take_part<G: Gate>(words: &Words<'_>, worker: &mut Worker<'_>, effort: &Effor
     worker.scratch = Some(scratch);
 }
 
-/// The parts of all workers at once, each in a thread of its own where one can be made: the workers are halved
-/// again and again, and one half goes to a new thread.
+/// The parts of all workers at once, each in a thread of its own where one can be made.
 pub(crate) fn take_parts<R: Threads + Sync, G: Gate>(
     rt: &R,
     words: &Words<'_>,
@@ -35,18 +35,15 @@ pub(crate) fn take_parts<R: Threads + Sync, G: Gate>(
     effort: &Effort,
     gate: &G,
 )
-    requires some { 0 < length workers.old }
-    requires can { All (CanTakePart words.now effort.now) workers.old }
+    requires { All (CanTakePart words.now effort.now) workers.old }
     ensures { AllZip (HasTakenPart words.now effort.now) workers.old workers.new }
 {
-    let count = workers.len();
-    for_each_mut(
+    call_each(
         rt,
-        workers,
-        count,
-        &|_, worker: &mut Worker|
+        &|worker: &mut Worker|
             requires { CanTakePart words.now effort.now worker.old }
             ensures { HasTakenPart words.entry.now effort.entry.now worker.old worker.new }
         { take_part(words, worker, effort, gate) },
+        workers,
     );
 }

@@ -4,8 +4,8 @@ use Rattle.trial_workers.proofs.Rounding.{all_can, parts_can_meet}
 use Rattle.trial_workers.proofs.Whole.{is_division, crew_knows, round_done, round_counts}
 use Rattle.trial_workers.proofs.rounds.round_of.Goals as goal
 
-pub take_parts-requires-clause-can : goal.take_parts-requires-clause-can
-take_parts-requires-clause-can g c κs within =
+pub take_parts-requires-after_bounds : goal.take_parts-requires-after_bounds
+take_parts-requires-after_bounds g c κs within =
     let b = c.args.words.now in let e = c.args.effort.now in let os = c.args.workers.now in let x = c.args.explored.now in
     let first : c.from.result * c.from-2.result ≡ c.args.number * e.trials = (λ t. c.from.ensures t * c.from-2.ensures t) in
     let d : Division = record { workers = length os; swept = x.swept; trials = e.trials; first_trial = c.from.result * c.from-2.result } in
