@@ -1,10 +1,9 @@
 -- Lists that are merged, mapped and merged again are merged once.
-use Rattle.std.proofs.Common.{◌≡◌, ℕ, zero, suc, ne_eqb, ◌+◌, ◌*◌, ◌<◌, ◌≤◌, Bool, true, false, ◌&&◌, ◌||◌, List, [], ◌∷◌, ◌++◌, length, map, refl, sym, ap, ◌∙◌, arith}
-use Rattle.std.specs.Prelude.{nat_eq, All}
+use Rattle.std.proofs.Common.{◌≡◌, ℕ, zero, suc, ne_eqb, ◌+◌, ◌*◌, ◌<◌, ◌≤◌, Bool, true, false, ◌&&◌, ◌||◌, List, [], ◌∷◌, length, map, refl, sym, ap, ◌∙◌, arith}
+use Rattle.std.specs.Prelude.{nat_eq}
 use Rattle.std.specs.List.{list_any}
 use Rattle.std.specs.Cmp.Lexicographic.{pointwise}
 use Rattle.std.proofs.lemmas.Bool.{eqb-true, eq-eqb}
-use Rattle.std.proofs.lemmas.List.Elements.{All-head, All-tail}
 use Rattle.std.proofs.Math.Nat.{add-mul}
 use Rattle.weighted.specs.Mean.{products, positive}
 use Rattle.weighted.specs.Merged.{with_item, with_items}
@@ -12,13 +11,14 @@ use Rattle.weighted.proofs.Merging.{length-with_items}
 use Rattle.ground_model.specs.declared.action.Choice.{Choice}
 use Rattle.ground_model.specs.declared.action.Guarded.{Guarded}
 use Rattle.joint_choices.specs.Same.{words_of, same_choice, same_part}
-use Rattle.joint_choices.specs.Joint.{weight_of, joined, added, with_weight, merged, with_factor}
+use Rattle.joint_choices.specs.Joint.{weight_of, idle, joined, added, with_weight, merged, with_factor}
+use Rattle.joint_choices.specs.Rising.{rising, less}
 use Rattle.joint_choices.proofs.Same.{same_choice-is}
 use Rattle.ground_model.specs.declared.limits.TheConstants.{MOST_CHOICES}
 use Rattle.choice_lists.specs.declared.refusal.JointRefusal.{JointRefusal}
 use Rattle.choice_lists.specs.declared.refusal.JointRefusal.TheVariants.{Choices, Denominator, OutcomeCost, Memory}
 use Rattle.choice_lists.specs.Refusals.{IsTooMany}
-use Rattle.choice_lists.specs.Piles.{piled, settled, Weighs}
+use Rattle.choice_lists.specs.Piles.{piled, settled, Weighs, merging}
 use Rattle.choice_lists.proofs.Sets.{same_bools}
 use Rattle.choice_lists.proofs.Piling.{joined-settled, joined-piled}
 
@@ -278,3 +278,24 @@ not_too_long Choices done c few long = absurd (omega (arith, few, long, length-f
 not_too_long Memory done c few long = refl
 not_too_long Denominator done c few long = absurd long
 not_too_long OutcomeCost done c few long = absurd long
+
+-- ---- products with the choice that does nothing
+
+joined-idle : (c : Choice) → joined (idle 1) c ≡ settled c
+joined-idle c =
+    let weights : 1 * c.weight ≡ c.weight = omega arith in
+    let costs : 0 + c.cost ≡ c.cost = omega arith in
+    λ i. record {
+      weight = weights i;
+      cost = costs i;
+      adds = rising c.adds;
+      deletes = less (rising c.deletes) (rising c.adds);
+      guarded = c.guarded;
+    }
+
+products-idle : (cs : List Choice) → products joined (idle 1 ∷ []) cs ≡ map settled cs
+products-idle [] = refl
+products-idle (c ∷ cs) = λ i. joined-idle c i ∷ products-idle cs i
+
+pub factor-idle : (cs : List Choice) → with_factor (idle 1 ∷ []) cs ≡ merging [] (map settled cs)
+factor-idle cs = ap merged (products-idle cs)

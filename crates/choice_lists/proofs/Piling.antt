@@ -1,14 +1,14 @@
 -- Choices that are joined one after another, and choices that are piled.
-use Rattle.std.proofs.Common.{◌≡◌, ℕ, ◌+◌, ◌*◌, ◌<◌, Bool, true, false, not, ◌&&◌, ◌||◌, cond, List, [], ◌∷◌, ◌++◌, refl, sym, ap, ◌∙◌, inl, inr, arith}
-use Rattle.std.specs.Prelude.{nat_eq, filter}
-use Rattle.std.proofs.lemmas.Bool.{eqb-true, eq-eqb}
+use Rattle.std.proofs.Common.{◌≡◌, ℕ, ◌+◌, ◌*◌, ◌<◌, Bool, true, false, not, ◌&&◌, ◌||◌, cond, List, [], ◌∷◌, ◌++◌, refl, sym, ap, ◌∙◌, arith}
+use Rattle.std.specs.Prelude.{nat_eq}
+use Rattle.std.proofs.lemmas.Bool.{eqb-true}
 use Rattle.std.proofs.lemmas.List.{append_assoc}
 use Rattle.std.proofs.lemmas.List.Kept.{AllPairs-filter}
 use Rattle.ground_model.specs.Choices.{is_member}
 use Rattle.ground_model.specs.declared.action.Choice.{Choice}
 use Rattle.joint_choices.specs.Rising.{rising, less}
 use Rattle.joint_choices.specs.Joint.{joined}
-use Rattle.joint_choices.proofs.Members.{any-rising, any-append, or_assoc}
+use Rattle.joint_choices.proofs.Members.{any-rising, any-append}
 use Rattle.choice_lists.specs.Piles.{piled, settled}
 use Rattle.choice_lists.proofs.Sets.{Rise, rising_rises, same_sets, rising_is, increasing-rising}
 

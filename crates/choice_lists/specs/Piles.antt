@@ -4,14 +4,15 @@
 --     Weighs c           it has a weight
 --     with_more k c      with k added to its weight
 --     merging done cs    a list with those of the choices merged into it that have a weight
+--     begun done         the choices of a list, or the one that does nothing where there is none
 --     made done run      the choices of a list, each together with the run of choices that is still to come
-use Rattle.std.specs.Prelude.{ℕ, ◌+◌, ◌*◌, ◌<◌, List, [], ◌∷◌, ◌++◌, Option, Some, None}
+use Rattle.std.specs.Prelude.{ℕ, ◌+◌, ◌*◌, ◌<◌, List, [], ◌∷◌, ◌++◌, Option, Some, None, Vec}
 use Rattle.weighted.specs.Mean.{positive}
 use Rattle.weighted.specs.Merged.{with_items}
 use Rattle.ground_model.specs.declared.action.Choice.{Choice}
 use Rattle.joint_choices.specs.Rising.{rising, less}
 use Rattle.joint_choices.specs.Same.{same_choice}
-use Rattle.joint_choices.specs.Joint.{weight_of, with_weight, added, with_factor}
+use Rattle.joint_choices.specs.Joint.{idle, weight_of, with_weight, added, with_factor}
 
 abbrev pub piled : Choice → Choice → Choice
 piled x y = record {
@@ -39,6 +40,10 @@ with_more k c = with_weight (c.weight + k) c
 
 abbrev pub merging : List Choice → List Choice → List Choice
 merging done cs = with_items same_choice added done (positive weight_of cs)
+
+abbrev pub begun : {A : Type 0} → Option (Vec Choice A) → List Choice
+begun None = idle 1 ∷ []
+begun (Some list) = list.items
 
 abbrev pub made : List Choice → Option Choice → List Choice
 made done None = done

@@ -5,7 +5,7 @@ ghost use Rattle.weighted.specs.Mean.{products, total};
 ghost use Rattle.ground_model.specs.declared.limits.TheConstants.{MOST_CHOICES};
 ghost use Rattle.joint_choices.specs.Joint.{idle, joined, scaled, with_factor, weight_of};
 ghost use Rattle.choice_lists.specs.Refusals.{IsTooMany};
-ghost use Rattle.choice_lists.specs.Piles.{merging, with_more};
+ghost use Rattle.choice_lists.specs.Piles.{merging, settled, with_more};
 
 use crate::draft::Draft;
 use crate::joining;
@@ -185,6 +185,27 @@ pub fn multiply(
     let mut merged = Merging::new(alloc);
     for draft in first {
         merged = put_products(alloc, merged, draft, others)?;
+    }
+    Ok(merged.into_list())
+}
+
+/// The list with a choice merged into it, its atoms settled first.
+fn put_settled(alloc: Global, list: Merging, draft: Draft) -> Result<Merging, JointRefusal>
+    ensures put { IfOk result (λ m. m ≡ merging list (settled draft ∷ [])) }
+    ensures refused { IfErr result (λ e. IsTooMany e (merging list (settled draft ∷ []))) }
+{
+    list.put(joining::settled(alloc, draft)?)
+}
+
+/// The choices with their atoms settled, merged.
+pub(crate) fn merged_settled(alloc: Global, drafts: Vec<Draft>) -> Result<Vec<Draft>, JointRefusal>
+    ensures list { IfOk result (λ v. v.items ≡ merging [] (map settled drafts.items)) }
+    ensures few { IfOk result (λ v. length v.items ≤ MOST_CHOICES) }
+    ensures refused { IfErr result (λ e. IsTooMany e (merging [] (map settled drafts.items))) }
+{
+    let mut merged = Merging::new(alloc);
+    for draft in drafts {
+        merged = put_settled(alloc, merged, draft)?;
     }
     Ok(merged.into_list())
 }

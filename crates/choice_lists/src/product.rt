@@ -4,12 +4,12 @@ ghost use Rattle.std.specs.Prelude.{◌≡◌, ◌≤◌, ◌<◌, ◌∷◌, []
 ghost use Rattle.ground_model.specs.declared.limits.TheConstants.{MOST_CHOICES};
 ghost use Rattle.joint_choices.specs.Joint.{idle, with_factor};
 ghost use Rattle.choice_lists.specs.declared.refusal.JointRefusal.TheVariants.{Memory};
-ghost use Rattle.choice_lists.specs.Piles.{Weighs};
+ghost use Rattle.choice_lists.specs.Piles.{Weighs, begun};
 ghost use Rattle.choice_lists.specs.Refusals.{IsTooMany};
 
 use crate::draft::Draft;
 use crate::joining::{pile, settled};
-use crate::merging::multiply;
+use crate::merging::{merged_settled, multiply};
 use crate::refusal::JointRefusal;
 use std::alloc::{AllocError, Global};
 use std::marker::Model;
@@ -21,7 +21,7 @@ use std::marker::Model;
 #[derive(Drop)]
 pub struct Product {
     alloc: Global,
-    done: Vec<Draft>,
+    done: Option<Vec<Draft>>,
     run: Option<Draft>,
 }
 
@@ -31,15 +31,15 @@ impl Model for Product {
     ghost use Rattle.ground_model.specs.contracts.condition.GroundCondition as of_conditions;
     ghost use Rattle.ground_model.specs.declared.action.Choice.{Choice};
     ghost use Rattle.ground_model.specs.declared.limits.TheConstants.{MOST_CHOICES};
-    ghost use Rattle.choice_lists.specs.Piles.{made};
+    ghost use Rattle.choice_lists.specs.Piles.{begun, made};
 
     ghost Value = { List Choice };
 
     ghost coded = { Prim.hlevel (codes, of_conditions.the_row.coded) };
 
-    ghost view = { λ p. made p.done.items p.run };
+    ghost view = { λ p. made (begun p.done) p.run };
 
-    ghost invariant = { λ p. length p.done.items ≤ MOST_CHOICES };
+    ghost invariant = { λ p. length (begun p.done) ≤ MOST_CHOICES };
 }
 
 /// The choice of a list of one, or the list.
@@ -55,16 +55,45 @@ fn only(mut drafts: Vec<Draft>) -> Result<Draft, Vec<Draft>>
     }
 }
 
+/// The choices of a list, or the one that does nothing.
+fn listed(alloc: Global, done: Option<Vec<Draft>>) -> Result<Vec<Draft>, AllocError>
+    ensures { IfOk result (λ v. v.items ≡ begun done) }
+{
+    match done {
+        Some(list) => Ok(list),
+        None => {
+            let mut idle = Vec::new(alloc);
+            idle.push(Draft::idle(alloc, 1))?;
+            Ok(idle)
+        }
+    }
+}
+
+/// Each choice of a list, or the one that does nothing, with each of a factor. With the one that does
+/// nothing the choices of the factor are their own, and none is copied.
+fn times(
+    alloc: Global,
+    done: Option<Vec<Draft>>,
+    factor: Vec<Draft>,
+) -> Result<Vec<Draft>, JointRefusal>
+    ensures list { IfOk result (λ v. v.items ≡ with_factor (begun done) factor.items) }
+    ensures few { IfOk result (λ v. length v.items ≤ MOST_CHOICES) }
+    ensures refused { IfErr result (λ e. IsTooMany e (with_factor (begun done) factor.items)) }
+{
+    match done {
+        Some(list) => multiply(alloc, list.as_slice(), factor.as_slice()),
+        None => merged_settled(alloc, factor),
+    }
+}
+
 impl Product {
     /// The product of no lists: one choice that does nothing.
     pub fn new(alloc: Global) -> Result<Product, AllocError>
         ensures { IfOk result (λ p. p ≡ idle 1 ∷ []) }
     {
-        let mut done = Vec::new(alloc);
-        done.push(Draft::idle(alloc, 1))?;
         Ok(Product {
             alloc,
-            done,
+            done: None,
             run: None,
         })
     }
@@ -94,9 +123,10 @@ impl Product {
         }
     }
 
-    /// The choices so far. It is refused for want of memory alone.
-    pub fn into_list(self) -> Result<Vec<Draft>, JointRefusal>
-        ensures list { IfOk result (λ v. v.items ≡ self) }
+    /// The list with the pile joined to each of its choices. It is refused for want of memory alone.
+    fn into_done(self) -> Result<Option<Vec<Draft>>, JointRefusal>
+        ensures list { IfOk result (λ d. begun d ≡ self) }
+        ensures few { IfOk result (λ d. length (begun d) ≤ MOST_CHOICES) }
         ensures refused { IfErr result (λ e. e ≡ Memory) }
     {
         let Product { alloc, done, run } = self;
@@ -105,9 +135,18 @@ impl Product {
             Some(pile) => {
                 let mut one = Vec::new(alloc);
                 one.push(settled(alloc, pile)?)?;
-                multiply(alloc, done.as_slice(), one.as_slice())
+                Ok(Some(times(alloc, done, one)?))
             }
         }
+    }
+
+    /// The choices so far. It is refused for want of memory alone.
+    pub fn into_list(self) -> Result<Vec<Draft>, JointRefusal>
+        ensures list { IfOk result (λ v. v.items ≡ self) }
+        ensures refused { IfErr result (λ e. e ≡ Memory) }
+    {
+        let alloc = self.alloc;
+        Ok(listed(alloc, self.into_done()?)?)
     }
 
     /// The product with one more list, whose choices have weights.
@@ -121,11 +160,10 @@ impl Product {
         match only(factor) {
             Ok(draft) => Ok(self.absorb(draft)?),
             Err(several) => {
-                let before = self.into_list()?;
-                let done = multiply(alloc, before.as_slice(), several.as_slice())?;
+                let done = times(alloc, self.into_done()?, several)?;
                 Ok(Product {
                     alloc,
-                    done,
+                    done: Some(done),
                     run: None,
                 })
             }

@@ -1,4 +1,4 @@
-use Rattle.std.proofs.Common.{◌≡◌, ◌≤◌, ◌<◌, ◌+◌, ◌^◌, drop}
+use Rattle.std.proofs.Common.{◌≡◌, ◌<◌, ◌+◌, ◌^◌, drop}
 use Rattle.weighted.specs.Mean.{total}
 use Rattle.ground_model.specs.declared.action.Guarded.{Guarded}
 use Rattle.joint_choices.specs.Joint.{charged}

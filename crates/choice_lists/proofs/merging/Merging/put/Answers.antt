@@ -1,9 +1,9 @@
-use Rattle.std.proofs.Common.{◌≡◌, ◌≢◌, ne_eqb, ◌≤◌, ◌<◌, ◌∷◌, ◌++◌, [], ℕ, Bool, true, false, List, length, length-append, map, nat_eq, get_or, slice_set, sym, ap, ◌∙◌, arith}
+use Rattle.std.proofs.Common.{◌≡◌, ◌≢◌, ne_eqb, ◌∷◌, ◌++◌, [], ℕ, false, List, length, length-append, nat_eq, get_or, slice_set, sym, ap, ◌∙◌, arith}
 use Rattle.ground_model.specs.declared.action.Choice.{Choice}
 use Rattle.ground_model.specs.declared.limits.TheConstants.{MOST_CHOICES}
 use Rattle.joint_choices.specs.Joint.{idle}
 use Rattle.choice_lists.specs.Piles.{merging, with_more}
-use Rattle.choice_lists.proofs.MergeSteps.{Placed, old_key, new_key, merging_one, set_keys, set_length}
+use Rattle.choice_lists.proofs.MergeSteps.{old_key, new_key, merging_one, set_keys, set_length}
 use Rattle.choice_lists.proofs.merging.Merging.put.Goals as goal
 
 weighs : (draft : Choice) (weight : ℕ) → weight ≡ draft.weight → weight ≢ 0 → nat_eq draft.weight 0 ≡ false
