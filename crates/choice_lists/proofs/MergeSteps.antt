@@ -1,5 +1,5 @@
 -- Merging choices one by one.
-use Rattle.std.proofs.Common.{◌≡◌, ℕ, zero, suc, ◌+◌, ◌<◌, ◌≤◌, Bool, true, false, not, ◌&&◌, ◌||◌, cond, List, [], ◌∷◌, ◌++◌, length, map, drop, drop-cons, get_or, add-one, refl, sym, ap, subst, ◌∙◌, arith}
+use Rattle.std.proofs.Common.{◌≡◌, ℕ, zero, suc, ◌+◌, ◌<◌, ◌≤◌, Bool, true, false, not, ◌&&◌, ◌||◌, cond, List, [], ◌∷◌, ◌++◌, length, map, drop, drop-cons, take, get_or, add-one, refl, sym, ap, subst, ◌∙◌, arith}
 use Rattle.std.specs.Prelude.{nat_eq, slice_set, if◌then◌else◌}
 use Rattle.std.specs.List.{list_any, position_or_len}
 use Rattle.std.specs.Cmp.Lexicographic.{pointwise}
@@ -66,7 +66,7 @@ missing (x ∷ xs) y e =
 
 -- ---- keys
 
-abbrev same_key : Key → Key → Bool
+abbrev pub same_key : Key → Key → Bool
 same_key = (keys.ghosts).eq
 
 abbrev same_part_key : PartKey → PartKey → Bool
@@ -123,42 +123,39 @@ map-push : (xs : List Choice) (y : Choice) → map key_of (xs ++ y ∷ []) ≡ m
 map-push [] y = refl
 map-push (x ∷ xs) y = ap (λ l. key_of x ∷ l) (map-push xs y)
 
--- what an insertion says
-module _ (ks : List Key) (k : Key) (xs : List Choice) (y : Choice) (are : ks ≡ map key_of xs) (is : k ≡ key_of y) where
-  any_key : list_any (same_key k) ks ≡ list_any (alike y) xs
-  any_key = (λ i. list_any (same_key (is i)) (are i)) ∙ any_is xs y
+-- an insertion and a merge, by keys
+pub insert_is : (xs : List Choice) (y : Choice) → insert_key same_key (map key_of xs) (key_of y) ≡ map key_of (with_item same_choice added xs y)
+insert_is xs y = ap (λ b. if b then map key_of xs else map key_of xs ++ key_of y ∷ []) (any_is xs y) ∙ either (list_any (alike y) xs) refl
+  where
+    either : (b : Bool) → list_any (alike y) xs ≡ b
+        → (if b then map key_of xs else map key_of xs ++ key_of y ∷ []) ≡ map key_of (with_item same_choice added xs y)
+    either true e = let at = placed xs y e in sym (keys_of_set xs (position_or_len (alike y) xs) y.weight) ∙ ap (map key_of) (sym at.is)
+    either false e = sym (map-push xs y) ∙ ap (map key_of) (sym (missing xs y e))
 
-  pub old_key : (new : List Key) (is_new : Bool) (place : ℕ) → new ≡ insert_key same_key ks k → is_new ≡ not (list_any (same_key k) ks)
-      → place ≡ position_or_len (same_key k) ks → is_new ≡ false
-      → Placed xs (with_item same_choice added xs y) y.weight place × (new ≡ map key_of xs)
-  old_key new is_new place inserted told at old =
-      let there : list_any (same_key k) ks ≡ true = denied (list_any (same_key k) ks) (sym told ∙ old) in
-      let found : list_any (alike y) xs ≡ true = sym any_key ∙ there in
-      let p : place ≡ position_or_len (alike y) xs = at ∙ (λ i. position_or_len (same_key (is i)) (are i)) ∙ place_is xs y in (
-        subst (λ q. Placed xs (with_item same_choice added xs y) y.weight q) (sym p) (placed xs y found),
-        inserted ∙ ap (λ b. if b then ks else ks ++ k ∷ []) there ∙ are,
-      )
-    where
-      denied : (b : Bool) → not b ≡ false → b ≡ true
-      denied true e = refl
-      denied false e = absurd (cc e)
+-- ---- the place of the first equal choice
 
-  pub new_key : (new : List Key) (is_new : Bool) → new ≡ insert_key same_key ks k → is_new ≡ not (list_any (same_key k) ks) → is_new ≡ true
-      → (with_item same_choice added xs y ≡ xs ++ y ∷ []) × (new ≡ map key_of (xs ++ y ∷ []))
-  new_key new is_new inserted told fresh =
-      let none : list_any (same_key k) ks ≡ false = denied (list_any (same_key k) ks) (sym told ∙ fresh) in (
-        missing xs y (sym any_key ∙ none),
-        inserted ∙ ap (λ b. if b then ks else ks ++ k ∷ []) none ∙ (λ i. are i ++ is i ∷ []) ∙ sym (map-push xs y),
-      )
-    where
-      denied : (b : Bool) → not b ≡ true → b ≡ false
-      denied true e = absurd (cc e)
-      denied false e = refl
+no_place : (xs : List Choice) (y : Choice) → list_any (alike y) xs ≡ false → position_or_len (alike y) xs ≡ length xs
+no_place [] y e = refl
+no_place (x ∷ xs) y e =
+    let parts = neither (same_choice x y) (list_any (alike y) xs) e in
+    let rest : position_or_len (alike y) xs ≡ length xs = no_place xs y parts.1 in
+    ap (λ b. cond (not b) (1 + position_or_len (alike y) xs) 0) parts.0 ∙ omega (arith, rest)
 
-pub set_keys : (xs new : List Choice) (y : Choice) (weight place : ℕ) (ks : List Key)
-    → Placed xs (with_item same_choice added xs y) weight place → ks ≡ map key_of xs
-    → new ≡ slice_set xs place (with_more weight (get_or xs place (idle 0))) → ks ≡ map key_of new
-set_keys xs new y weight place ks at are is = are ∙ sym (keys_of_set xs place weight) ∙ ap (map key_of) (sym is)
+pub placed_at : (xs : List Choice) (y : Choice) (place : ℕ) → place ≡ position_or_len (alike y) xs → place < length xs
+    → Placed xs (with_item same_choice added xs y) y.weight place
+placed_at xs y place is low = either (list_any (alike y) xs) refl
+  where
+    either : (b : Bool) → list_any (alike y) xs ≡ b → Placed xs (with_item same_choice added xs y) y.weight place
+    either true e = subst (λ q. Placed xs (with_item same_choice added xs y) y.weight q) (sym is) (placed xs y e)
+    either false e = let none : position_or_len (alike y) xs ≡ length xs = no_place xs y e in absurd (omega (arith, is, low, none))
+
+pub missing_at : (xs : List Choice) (y : Choice) (place : ℕ) → place ≡ position_or_len (alike y) xs → length xs ≤ place
+    → with_item same_choice added xs y ≡ xs ++ y ∷ []
+missing_at xs y place is high = either (list_any (alike y) xs) refl
+  where
+    either : (b : Bool) → list_any (alike y) xs ≡ b → with_item same_choice added xs y ≡ xs ++ y ∷ []
+    either true e = let low = (placed xs y e).within in absurd (omega (arith, is, high, low))
+    either false e = missing xs y e
 
 length-set : (xs : List Choice) (place : ℕ) (c : Choice) → length (slice_set xs place c) ≡ length xs
 length-set [] place c = refl
@@ -249,3 +246,18 @@ pub list_step : (f : Choice → Choice) (done next whole : List Choice) (y : Cho
     → merging done (map f (y ∷ rest)) ≡ whole → next ≡ merging done (f y ∷ []) → merging next (map f rest) ≡ whole
 list_step f done next whole y rest before new =
     ap (λ l. merging l (map f rest)) new ∙ sym (merging-append done (f y ∷ []) (map f rest)) ∙ before
+
+take_next : {X : Type 0} (l : List X) (i : ℕ) (d : X) → i < length l → take (suc i) l ≡ take i l ++ get_or l i d ∷ []
+take_next [] i d within = absurd (omega arith)
+take_next (x ∷ l) zero d within = refl
+take_next (x ∷ l) (suc i) d within = ap (λ m. x ∷ m) (take_next l i d (omega (arith, within)))
+
+-- one more of the choices whose keys are put into a set
+pub keys_step : (ks new : List Key) (xs : List Choice) (k : Key) (i : ℕ) (y d : Choice) → i < length xs → y ≡ get_or xs i d
+    → ks ≡ map key_of (with_items same_choice added [] (take i xs)) → k ≡ key_of y → new ≡ insert_key same_key ks k
+    → new ≡ map key_of (with_items same_choice added [] (take (i + 1) xs))
+keys_step ks new xs k i y d within is are key inserted =
+    let one : take (i + 1) xs ≡ take i xs ++ y ∷ [] = ap (λ n. take n xs) (add-one i) ∙ take_next xs i d within ∙ ap (λ x. take i xs ++ x ∷ []) (sym is) in
+    inserted ∙ (λ j. insert_key same_key (are j) (key j))
+    ∙ insert_is (with_items same_choice added [] (take i xs)) y
+    ∙ ap (map key_of) (sym (ap (with_items same_choice added []) one ∙ with_items-append [] (take i xs) (y ∷ [])))

@@ -18,7 +18,7 @@ use Rattle.ground_model.specs.declared.limits.TheConstants.{MOST_CHOICES}
 use Rattle.choice_lists.specs.declared.refusal.JointRefusal.{JointRefusal}
 use Rattle.choice_lists.specs.declared.refusal.JointRefusal.TheVariants.{Choices, Denominator, OutcomeCost, Memory}
 use Rattle.choice_lists.specs.Refusals.{IsTooMany}
-use Rattle.choice_lists.specs.Piles.{piled, settled, Weighs, merging}
+use Rattle.choice_lists.specs.Piles.{piled, settled, Weighs, IsMerged, merging}
 use Rattle.choice_lists.proofs.Sets.{same_bools}
 use Rattle.choice_lists.proofs.Piling.{joined-settled, joined-piled}
 
@@ -125,22 +125,18 @@ put_later : (acc zs : List Choice) (v : Choice) → has acc v ≡ true → put (
 put_later acc [] v e = refl
 put_later acc (z ∷ zs) v e = put_later (put acc z) zs v (has_kept acc z v e) ∙ ap (λ l. put_all l zs) (put_swap acc z v e)
 
--- ---- each joined with one choice
+-- ---- each changed
 
-module _ (c : Choice) where
-  abbrev f : Choice → Choice
-  f x = joined x c
-
-  joined-added : (x y : Choice) → f (added x y) ≡ added (f x) (f y)
-  joined-added x y = λ i. with_weight (add-mul x.weight y.weight c.weight i) (f x)
-
+-- a change of choices that keeps equal ones equal and adds their weights up
+module _ (f : Choice → Choice) (sum : (x y : Choice) → f (added x y) ≡ added (f x) (f y))
+    (like : (x y : Choice) → same_choice x y ≡ true → same_choice (f x) (f y) ≡ true) where
   mapped_first : (b : Bool) (x y : Choice) (xs acc rest : List Choice) → same_choice x y ≡ b
       → put_all (put acc (f x)) (map f rest) ≡ put (put_all (put acc (f x)) (map f xs)) (f y)
       → put_all acc (map f (elim b as (λ _. List Choice) [ true ↦ added x y ∷ xs | false ↦ x ∷ rest ])) ≡ put (put_all (put acc (f x)) (map f xs)) (f y)
   mapped_first true x y xs acc rest e later =
-      ap (λ k. put_all (put acc k) (map f xs)) (joined-added x y)
-      ∙ ap (λ l. put_all l (map f xs)) (put_both acc (f x) (f y) (joined_too x y c e))
-      ∙ sym (put_later (put acc (f x)) (map f xs) (f y) (has_new acc (f x) (f y) (joined_too x y c e)))
+      ap (λ k. put_all (put acc k) (map f xs)) (sum x y)
+      ∙ ap (λ l. put_all l (map f xs)) (put_both acc (f x) (f y) (like x y e))
+      ∙ sym (put_later (put acc (f x)) (map f xs) (f y) (has_new acc (f x) (f y) (like x y e)))
   mapped_first false x y xs acc rest e later = later
 
   mapped : (xs acc : List Choice) (y : Choice) → put_all acc (map f (put xs y)) ≡ put (put_all acc (map f xs)) (f y)
@@ -150,6 +146,29 @@ module _ (c : Choice) where
   mapped_all : (ys xs : List Choice) → put_all [] (map f (put_all xs ys)) ≡ put_all (put_all [] (map f xs)) (map f ys)
   mapped_all [] xs = refl
   mapped_all (y ∷ ys) xs = mapped_all ys (put xs y) ∙ ap (λ l. put_all l (map f ys)) (mapped xs [] y)
+
+-- ---- lists that are merged
+
+pub merged_put : (xs : List Choice) (y : Choice) → IsMerged xs → IsMerged (put xs y)
+merged_put xs y is = mapped_all-itself xs (y ∷ []) ∙ ap (λ l. put l y) is
+  where
+    map-itself : (l : List Choice) → map (λ x. x) l ≡ l
+    map-itself [] = refl
+    map-itself (x ∷ l) = ap (λ m. x ∷ m) (map-itself l)
+
+    mapped_all-itself : (l ys : List Choice) → put_all [] (put_all l ys) ≡ put_all (put_all [] l) ys
+    mapped_all-itself l ys =
+        ap (put_all []) (sym (map-itself (put_all l ys))) ∙ mapped_all (λ x. x) (λ x y. refl) (λ x y e. e) ys l
+        ∙ (λ i. put_all (put_all [] (map-itself l i)) (map-itself ys i))
+
+-- ---- each joined with one choice
+
+module _ (c : Choice) where
+  abbrev f : Choice → Choice
+  f x = joined x c
+
+  joined-added : (x y : Choice) → f (added x y) ≡ added (f x) (f y)
+  joined-added x y = λ i. with_weight (add-mul x.weight y.weight c.weight i) (f x)
 
   -- ---- weights
 
@@ -223,7 +242,7 @@ positive-merged xs = positive_solid (merged xs) (solid_put_all (positive weight_
 pub merged-map-merged : (c : Choice) → Weighs c → (xs : List Choice) → merged (map (λ d. joined d c) (merged xs)) ≡ merged (map (λ d. joined d c) xs)
 merged-map-merged c above xs =
     ap (put_all []) (positive-map c above (merged xs) ∙ ap (map (f c)) (positive-merged xs))
-    ∙ mapped_all c (positive weight_of xs) []
+    ∙ mapped_all (f c) (joined-added c) (λ x y e. joined_too x y c e) (positive weight_of xs) []
     ∙ ap (put_all []) (sym (positive-map c above xs))
 
 -- ---- factors of one choice

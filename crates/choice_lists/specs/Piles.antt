@@ -4,9 +4,10 @@
 --     Weighs c           it has a weight
 --     with_more k c      with k added to its weight
 --     merging done cs    a list with those of the choices merged into it that have a weight
+--     IsMerged cs        no two of them are equal: merging them changes nothing
 --     begun done         the choices of a list, or the one that does nothing where there is none
 --     made done run      the choices of a list, each together with the run of choices that is still to come
-use Rattle.std.specs.Prelude.{ℕ, ◌+◌, ◌*◌, ◌<◌, List, [], ◌∷◌, ◌++◌, Option, Some, None, Vec}
+use Rattle.std.specs.Prelude.{◌≡◌, ℕ, ◌+◌, ◌*◌, ◌<◌, List, [], ◌∷◌, ◌++◌, Option, Some, None, Vec}
 use Rattle.weighted.specs.Mean.{positive}
 use Rattle.weighted.specs.Merged.{with_items}
 use Rattle.ground_model.specs.declared.action.Choice.{Choice}
@@ -40,6 +41,9 @@ with_more k c = with_weight (c.weight + k) c
 
 abbrev pub merging : List Choice → List Choice → List Choice
 merging done cs = with_items same_choice added done (positive weight_of cs)
+
+abbrev pub IsMerged : List Choice → Type 0
+IsMerged cs = with_items same_choice added [] cs ≡ cs
 
 abbrev pub begun : {A : Type 0} → Option (Vec Choice A) → List Choice
 begun None = idle 1 ∷ []

@@ -14,6 +14,7 @@ mod narrowing;
 mod part;
 mod product;
 mod refusal;
+mod same;
 mod words;
 
 pub use draft::Draft;

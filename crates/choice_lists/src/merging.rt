@@ -1,37 +1,46 @@
 //! Lists in which equal choices are merged.
 
-ghost use Rattle.std.specs.Prelude.{◌≡◌, ◌≤◌, ◌∷◌, [], length, map, IfOk, IfErr, OnOk, slice_set, get_or, ◌<◌};
+ghost use Rattle.std.specs.Prelude.{◌≡◌, ◌≤◌, ◌∷◌, [], length, map, IfOk, IfErr, IfSome, OnOk, slice_set, get_or, ◌<◌};
+ghost use Rattle.std.specs.List.{position_or_len};
 ghost use Rattle.weighted.specs.Mean.{products, total};
+ghost use Rattle.weighted.specs.Merged.{with_item};
 ghost use Rattle.ground_model.specs.declared.limits.TheConstants.{MOST_CHOICES};
-ghost use Rattle.joint_choices.specs.Joint.{idle, joined, scaled, with_factor, weight_of};
+ghost use Rattle.joint_choices.specs.Joint.{added, idle, joined, scaled, with_factor, weight_of};
+ghost use Rattle.joint_choices.specs.Same.{same_choice};
+ghost use Rattle.choice_lists.specs.Keys.{key_of};
 ghost use Rattle.choice_lists.specs.Refusals.{IsTooMany};
-ghost use Rattle.choice_lists.specs.Piles.{merging, settled, with_more};
+ghost use Rattle.choice_lists.specs.Piles.{IsMerged, merging, settled, with_more};
 
 use crate::draft::Draft;
 use crate::joining;
 use crate::key::{Key, key_of};
 use crate::refusal::JointRefusal;
+use crate::same::place_of;
 use ground_model::MOST_CHOICES;
 use indexmap::IndexSet;
 use std::alloc::{AllocError, Global};
 use std::marker::Model;
 
-/// A list of at most `MOST_CHOICES` choices in which equal ones are merged, each at the place of the first. They are found
-/// by hash. Contracts see the list.
+/// From this length on equal choices are found by hash. In shorter lists they are compared one by one.
+const HASHED_LENGTH: usize = 8;
+
+/// A list of at most `MOST_CHOICES` choices in which equal ones are merged, each at the place of the
+/// first. A long list has the keys of its choices. Contracts see the list.
 #[derive(Drop)]
 pub struct Merging {
     alloc: Global,
-    keys: IndexSet<Key>,
+    keys: Option<IndexSet<Key>>,
     list: Vec<Draft>,
 }
 
 impl Model for Merging {
-    ghost use Rattle.std.specs.Prelude.{◌≡◌, ◌≤◌, List, length, map};
+    ghost use Rattle.std.specs.Prelude.{◌≡◌, ◌≤◌, List, length, map, IfSome};
     ghost use Rattle.std.specs.Coded.{codes};
     ghost use Rattle.ground_model.specs.contracts.condition.GroundCondition as of_conditions;
     ghost use Rattle.ground_model.specs.declared.action.Choice.{Choice};
     ghost use Rattle.ground_model.specs.declared.limits.TheConstants.{MOST_CHOICES};
     ghost use Rattle.choice_lists.specs.Keys.{key_of};
+    ghost use Rattle.choice_lists.specs.Piles.{IsMerged};
 
     ghost Value = { List Choice };
 
@@ -39,7 +48,64 @@ impl Model for Merging {
 
     ghost view = { λ m. m.list.items };
 
-    ghost invariant = { λ m. (m.keys.keys ≡ map key_of m.list.items) × (length m.list.items ≤ MOST_CHOICES) };
+    ghost invariant = { λ m. (IfSome m.keys (λ k. k.keys ≡ map key_of m.list.items))
+        × (length m.list.items ≤ MOST_CHOICES) × IsMerged m.list.items };
+}
+
+/// The keys of a list whose choices differ.
+fn new_keys(alloc: Global, list: &[Draft]) -> Result<IndexSet<Key>, AllocError>
+    requires { IsMerged list.now }
+    ensures { IfOk result (λ k. k.keys ≡ map key_of list.now) }
+{
+    let mut keys = IndexSet::new(alloc);
+    for draft in list {
+        let Ok(_) = keys.insert(key_of(alloc, draft)?) else {
+            return Err(AllocError);
+        };
+    }
+    Ok(keys)
+}
+
+/// The keys of a list whose choices differ. They are made where there are none.
+fn keys_of(
+    alloc: Global,
+    keys: Option<IndexSet<Key>>,
+    list: &[Draft],
+) -> Result<IndexSet<Key>, AllocError>
+    requires keyed { IfSome keys (λ k. k.keys ≡ map key_of list.now) }
+    requires merged { IsMerged list.now }
+    ensures { IfOk result (λ k. k.keys ≡ map key_of list.now) }
+{
+    match keys {
+        Some(keys) => Ok(keys),
+        None => new_keys(alloc, list),
+    }
+}
+
+/// The place of the first choice in a list that is equal to another, or the length of the list, and
+/// with it the keys of the list with the other choice merged into it, if it is long.
+fn find(
+    alloc: Global,
+    keys: Option<IndexSet<Key>>,
+    list: &[Draft],
+    draft: &Draft,
+) -> Result<(Option<IndexSet<Key>>, usize), AllocError>
+    requires keyed { IfSome keys (λ k. k.keys ≡ map key_of list.now) }
+    requires merged { IsMerged list.now }
+    ensures keyed { IfOk result (λ r. IfSome r.0
+        (λ k. k.keys ≡ map key_of (with_item same_choice added list.now draft.now))) }
+    ensures place { IfOk result
+        (λ r. r.1 ≡ position_or_len (λ x. same_choice x draft.now) list.now) }
+{
+    if list.len() < HASHED_LENGTH {
+        return Ok((None, place_of(alloc, list, draft)?));
+    }
+    let mut keys = keys_of(alloc, keys, list)?;
+    let key = key_of(alloc, draft)?;
+    let Ok((place, _)) = keys.insert_full(key) else {
+        return Err(AllocError);
+    };
+    Ok((Some(keys), place))
 }
 
 impl Merging {
@@ -49,7 +115,7 @@ impl Merging {
     {
         Merging {
             alloc,
-            keys: IndexSet::new(alloc),
+            keys: None,
             list: Vec::new(alloc),
         }
     }
@@ -73,14 +139,11 @@ impl Merging {
         }
         let Merging {
             alloc,
-            mut keys,
+            keys,
             mut list,
         } = self;
-        let key = key_of(alloc, &draft)?;
-        let Ok((place, is_new)) = keys.insert_full(key) else {
-            return Err(JointRefusal::Memory);
-        };
-        if !is_new {
+        let (keys, place) = find(alloc, keys, list.as_slice(), &draft)?;
+        if place < list.len() {
             add_weight(&mut list, place, draft.weight)?;
             return Ok(Merging { alloc, keys, list });
         }
