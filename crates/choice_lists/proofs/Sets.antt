@@ -17,7 +17,7 @@ use Rattle.std.proofs.lemmas.Map.Keys.{IsStrictlyIncreasing-dedup}
 use Rattle.std.proofs.lemmas.Map.Views.{list_any-from_Contains, Contains-from_any}
 use Rattle.ground_model.specs.Choices.{is_member}
 use Rattle.ground_model.proofs.Rising.{pairs_rise}
-use Rattle.joint_choices.specs.Rising.{rising}
+use Rattle.joint_choices.specs.Rising.{rising, less}
 use Rattle.joint_choices.proofs.Members.{any-rising}
 use Rattle.joint_choices.proofs.RisingLists.{rises-rising}
 
@@ -118,6 +118,18 @@ same_sets (x ∷ xs) (y ∷ ys) rise other same =
 pub rising_is : (xs ys : List ℕ) → IsStrictlyIncreasing xs → ((q : ℕ) → is_member xs q ≡ is_member ys q) → xs ≡ rising ys
 rising_is xs ys rise same =
     same_sets xs (rising ys) (AllPairs-from_increasing xs rise) (rising_rises ys) (λ q. same q ∙ sym (any-rising (nat_eq q) ys))
+
+-- ---- short lists
+
+pub rising_short : (xs : List ℕ) → length xs < 2 → xs ≡ rising xs
+rising_short [] short = refl
+rising_short (x ∷ []) short = refl
+rising_short (x ∷ y ∷ xs) short = absurd (omega (arith, short))
+
+pub less_none : (xs gone : List ℕ) → length gone ≡ 0 → xs ≡ less xs gone
+less_none [] gone none = refl
+less_none (x ∷ xs) [] none = ap (λ l. x ∷ l) (less_none xs [] refl)
+less_none (x ∷ xs) (q ∷ gone) none = absurd (omega (arith, none))
 
 -- ---- what sorting and removing repeats leave
 

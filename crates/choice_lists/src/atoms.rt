@@ -11,6 +11,9 @@ use std::alloc::{AllocError, Global};
 pub(crate) fn make_rising(atoms: &mut Vec<u32>)
     ensures { atoms.new.items ≡ rising atoms.old.items }
 {
+    if atoms.len() < 2 {
+        return;
+    }
     atoms.sort_unstable();
     atoms.dedup();
 }
@@ -19,7 +22,8 @@ pub(crate) fn make_rising(atoms: &mut Vec<u32>)
 pub(crate) fn united(alloc: Global, first: &[u32], second: &[u32]) -> Result<Vec<u32>, AllocError>
     ensures { IfOk result (λ v. v.items ≡ rising (first.now ++ second.now)) }
 {
-    let mut atoms = Vec::from_slice(alloc, first)?;
+    let mut atoms = Vec::with_capacity(alloc, first.len() + second.len())?;
+    atoms.extend_from_slice(first)?;
     atoms.extend_from_slice(second)?;
     make_rising(&mut atoms);
     Ok(atoms)
@@ -36,8 +40,8 @@ fn is_in(atoms: &[u32], atom: u32) -> bool
     }
 }
 
-/// The atoms that are not in a rising list.
-pub(crate) fn less(alloc: Global, atoms: &[u32], gone: &[u32]) -> Result<Vec<u32>, AllocError>
+/// The atoms that are not in a rising list, one by one.
+fn kept(alloc: Global, atoms: &[u32], gone: &[u32]) -> Result<Vec<u32>, AllocError>
     requires { IsStrictlyIncreasing gone.now }
     ensures { IfOk result (λ v. v.items ≡ less atoms.now gone.now) }
 {
@@ -48,4 +52,15 @@ pub(crate) fn less(alloc: Global, atoms: &[u32], gone: &[u32]) -> Result<Vec<u32
         }
     }
     Ok(left)
+}
+
+/// The atoms that are not in a rising list. Where that is empty, nothing is copied.
+pub(crate) fn less(alloc: Global, atoms: Vec<u32>, gone: &[u32]) -> Result<Vec<u32>, AllocError>
+    requires { IsStrictlyIncreasing gone.now }
+    ensures { IfOk result (λ v. v.items ≡ less atoms.items gone.now) }
+{
+    if gone.is_empty() {
+        return Ok(atoms);
+    }
+    kept(alloc, atoms.as_slice(), gone)
 }

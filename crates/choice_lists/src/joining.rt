@@ -17,8 +17,8 @@ pub(crate) fn joined(alloc: Global, first: &Draft, second: &Draft) -> Result<Dra
     let cost = first.cost.checked_add(second.cost).ok_or(AllocError)?;
     let adds = united(alloc, first.adds.as_slice(), second.adds.as_slice())?;
     let together = united(alloc, first.deletes.as_slice(), second.deletes.as_slice())?;
-    let deletes = less(alloc, together.as_slice(), adds.as_slice())?;
-    let mut guarded = Vec::with_capacity(alloc, first.guarded.len())?;
+    let deletes = less(alloc, together, adds.as_slice())?;
+    let mut guarded = Vec::with_capacity(alloc, first.guarded.len() + second.guarded.len())?;
     push_copies(alloc, &mut guarded, first.guarded.as_slice())?;
     push_copies(alloc, &mut guarded, second.guarded.as_slice())?;
     Ok(Draft {
@@ -50,7 +50,7 @@ pub(crate) fn settled(alloc: Global, mut draft: Draft) -> Result<Draft, AllocErr
 {
     make_rising(&mut draft.adds);
     make_rising(&mut draft.deletes);
-    let deletes = less(alloc, draft.deletes.as_slice(), draft.adds.as_slice())?;
+    let deletes = less(alloc, draft.deletes, draft.adds.as_slice())?;
     draft.deletes = deletes;
     Ok(draft)
 }
