@@ -1,9 +1,9 @@
 -- Arguments of atoms as places of rows.
-use Rattle.std.proofs.Common.{◌≡◌, ℕ, zero, suc, ◌+◌, ◌-◌, ◌<◌, ◌≤◌, Bool, true, false, ◌||◌, cond, List, [], ◌∷◌, ◌++◌, map, length, take, drop, drop-cons, get_or, add-one, Some, refl, sym, ap, subst, ◌∙◌, arith, length-append, true≢false}
+use Rattle.std.proofs.Common.{◌≡◌, ℕ, zero, suc, ◌+◌, ◌-◌, ◌<◌, ◌≤◌, Bool, true, false, ◌||◌, cond, List, [], ◌∷◌, ◌++◌, map, length, take, drop, get_or, set, Some, refl, sym, ap, subst, ◌∙◌, arith, true≢false}
 use Rattle.std.specs.Prelude.{All}
 use Rattle.std.specs.List.{list_any}
-use Rattle.std.proofs.lemmas.List.{map-append}
-use Rattle.std.proofs.lemmas.List.Elements.{All-nil, All-cons, All-head, All-tail, All-append, All-weaker, All-get_or}
+use Rattle.std.proofs.lemmas.List.{map-append, take_more, take_more_set}
+use Rattle.std.proofs.lemmas.List.Elements.{All-nil, All-cons, All-append, All-get_or}
 use Rattle.ppddl_model.specs.declared.tree.Param.{Param}
 use Rattle.ppddl_model.specs.declared.tree.Term.{Term}
 use Rattle.ppddl_model.specs.declared.tree.Term.TheVariants.{Variable, Object}
@@ -16,7 +16,7 @@ use Rattle.type_table.proofs.Numbered.{number_is}
 use Rattle.quantified_atoms.specs.Needed.{hides}
 use Rattle.kept_bindings.specs.declared.pattern.Slot.{Slot}
 use Rattle.kept_bindings.specs.declared.pattern.Slot.TheVariants.{Number, Place}
-use Rattle.kept_bindings.specs.Kept.{bound_to, IsRow}
+use Rattle.kept_bindings.specs.Kept.{bound_to}
 use Rattle.kept_bindings.proofs.Staging.{from_place}
 use Rattle.kept_bindings.specs.Patterns.{number_in, numbers_in, fits_in, IsLastPlace, IsSlot, HasSlots}
 
@@ -106,3 +106,12 @@ slot_more w ps ts more t slots after s has is one put =
           ∙ ap (λ x. map (named (bound_to w ps row [])) ts ++ x ∷ []) (is.is row in_row)
           ∙ sym (map-append (named (bound_to w ps row [])) ts (t ∷ []));
     }))
+
+-- one argument more is written at its place
+pub number_more : (row : List ℕ) (slots : List Slot) (into : List ℕ) (i p : ℕ) (d : Slot) (number : ℕ) → i < length slots → i + 1 < length into
+    → number ≡ number_in row (get_or slots i d) → take (i + 1) into ≡ p ∷ numbers_in row (take i slots)
+    → take (i + 1 + 1) (set into (i + 1) number) ≡ p ∷ numbers_in row (take (i + 1) slots)
+number_more row slots into i p d number within long is before =
+    take_more_set into (i + 1) number long
+    ∙ (λ j. before j ++ is j ∷ [])
+    ∙ ap (λ l. p ∷ l) (sym (ap (numbers_in row) (take_more slots i d within) ∙ map-append (number_in row) (take i slots) (get_or slots i d ∷ [])))

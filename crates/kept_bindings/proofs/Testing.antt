@@ -1,5 +1,5 @@
 -- Tests by number.
-use Rattle.std.proofs.Common.{◌≡◌, ℕ, zero, suc, ◌-◌, ◌<◌, ◌≤◌, ◌++◌, take, reverse, Bool, true, false, ◌||◌, ◌&&◌, cond, List, [], ◌∷◌, map, length, Some, None, refl, sym, ap, subst, ◌∙◌, arith}
+use Rattle.std.proofs.Common.{◌≡◌, ℕ, zero, suc, ◌-◌, ◌<◌, ◌≤◌, ◌++◌, take, reverse, Bool, true, false, ◌||◌, ◌&&◌, cond, List, [], ◌∷◌, length, Some, None, refl, sym, ap, subst, ◌∙◌, arith}
 use Rattle.std.specs.Prelude.{All, Option, IfSome, Vec}
 use Rattle.std.specs.Borrow.{Bor}
 use Rattle.std.proofs.lemmas.List.Elements.{All-weaker}
@@ -9,17 +9,16 @@ use Rattle.ppddl_model.specs.declared.tree.Condition.TheVariants as condition
 use Rattle.ppddl_model.specs.declared.tree.Param.{Param}
 use Rattle.ppddl_model.specs.declared.tree.Task.{Task}
 use Rattle.ppddl_model.specs.declared.tree.Term.{Term}
-use Rattle.ppddl_model.specs.State.{Name, same_name}
+use Rattle.ppddl_model.specs.State.{Name}
 use Rattle.ppddl_model.specs.Objects.{World, Binding, ground_atom}
 use Rattle.ppddl_model.specs.Known.{is_not_false}
 use Rattle.ppddl_model.specs.Functions.{has_value}
 use Rattle.ppddl_model.specs.Steps.{world}
-use Rattle.type_table.specs.Numbered.{number_of, name_at}
+use Rattle.type_table.specs.Numbered.{number_of}
 use Rattle.type_table.specs.Types.{object_at}
 use Rattle.type_table.proofs.Numbered.{number_is}
 use Rattle.quantified_atoms.specs.declared.quantified_atom.QuantifiedAtom.{QuantifiedAtom}
 use Rattle.quantified_atoms.specs.Needed.{params_of}
-use Rattle.quantified_atoms.specs.Quantified.{is_settled}
 use Rattle.task_facts.specs.Facts.{table_of, is_fact}
 use Rattle.kept_bindings.specs.declared.pattern.Pattern.{Pattern}
 use Rattle.kept_bindings.specs.declared.pattern.Slot.{Slot}
@@ -29,7 +28,7 @@ use Rattle.kept_bindings.specs.declared.test.Test.{Test}
 use Rattle.kept_bindings.specs.Kept.{bound_to, IsRow}
 use Rattle.kept_bindings.specs.Stages.{may_hold}
 use Rattle.kept_bindings.specs.Terms.{has_values, is_valued_under}
-use Rattle.kept_bindings.specs.Patterns.{fits_in, numbers_in, row_under, HasSlots, IsPattern, IsFactPattern, IsTermPattern, DecidesTest, DecidesTerm, decides_by, TestStands, TermStands, IsTest, IsTermTest, ArePrepared}
+use Rattle.kept_bindings.specs.Patterns.{fits_in, HasSlots, IsPattern, IsFactPattern, IsTermPattern, DecidesTest, DecidesTerm, decides_by, TestStands, TermStands, IsTest, IsTermTest, ArePrepared}
 use Rattle.kept_bindings.proofs.Staging.{pushed_first}
 
 pub number_given : (may : Bool) (number : Option ℕ) (k : ℕ) → Some k ≡ cond may None number → (may ≡ false) × (number ≡ Some k)

@@ -1,5 +1,5 @@
 -- Whether function terms have values, variable by variable and term by term.
-use Rattle.std.proofs.Common.{◌≡◌, ℕ, Bool, true, false, not, ◌&&◌, ◌||◌, List, [], ◌∷◌, map, filter, length, drop, get_or, refl, sym, ap, ◌∙◌, arith}
+use Rattle.std.proofs.Common.{◌≡◌, Bool, true, false, not, ◌&&◌, ◌||◌, List, [], ◌∷◌, map, filter, length, drop, get_or, refl, sym, ap, ◌∙◌, arith}
 use Rattle.std.specs.Borrow.{Bor}
 use Rattle.std.specs.List.{list_all}
 use Rattle.ppddl_model.specs.declared.tree.Action.{Action}
@@ -8,7 +8,7 @@ use Rattle.ppddl_model.specs.declared.tree.Effect.{Effect}
 use Rattle.ppddl_model.specs.declared.tree.Param.{Param}
 use Rattle.ppddl_model.specs.declared.tree.Task.{Task}
 use Rattle.ppddl_model.specs.State.{Name}
-use Rattle.ppddl_model.specs.Objects.{World, Binding, objects_of, bindings}
+use Rattle.ppddl_model.specs.Objects.{World, Binding, objects_of}
 use Rattle.ppddl_model.specs.Functions.{has_value, are_valued}
 use Rattle.ppddl_model.specs.Steps.{world}
 use Rattle.type_table.proofs.Lists.{by_test}

@@ -1,6 +1,6 @@
 //! Atoms by number, whose arguments are objects or stand in the row of a binding.
 
-ghost use Rattle.std.specs.Prelude.{◌≡◌, ◌<◌, length, All, IfOk, OnOk, IfSome};
+ghost use Rattle.std.specs.Prelude.{◌≡◌, ◌<◌, [], suc, length, All, IfOk, OnOk, IfSome};
 ghost use Rattle.ground_sizes.specs.Typed.{IsTyped};
 ghost use Rattle.kept_bindings.specs.Patterns.{number_in, fits_in, row_under};
 ghost use Rattle.kept_bindings.specs.Patterns.{IsLastPlace, IsSlot, HasSlots};
@@ -87,16 +87,41 @@ fn number_in(row: &[u32], slot: Slot) -> u32
 }
 
 impl Pattern {
-    /// Writes the row of the atom in place of what stood there.
-    pub(crate) fn write(&self, row: &[u32], into: &mut Vec<usize>) -> Result<(), AllocError>
-        requires { All (fits_in (length row.now)) self.now.slots.items }
+    /// Writes the row of the atom over a row of its length.
+    fn write_over(&self, row: &[u32], into: &mut [usize])
+        requires fit { All (fits_in (length row.now)) self.now.slots.items }
+        requires long { length into.old ≡ suc (length self.now.slots.items) }
+        ensures { into.new ≡ row_under self.now row.now }
+    {
+        into[0] = self.predicate;
+        for (place, slot) in self.slots.as_slice().iter().enumerate() {
+            into[place + 1] = number_in(row, *slot) as usize;
+        }
+    }
+
+    /// Puts the row of the atom into a buffer that has nothing.
+    fn write_anew(&self, row: &[u32], into: &mut Vec<usize>) -> Result<(), AllocError>
+        requires fit { All (fits_in (length row.now)) self.now.slots.items }
+        requires empty { into.old.items ≡ [] }
         ensures { OnOk result (into.new.items ≡ row_under self.now row.now) }
     {
-        into.clear();
         into.push(self.predicate)?;
         for slot in self.slots.as_slice() {
             into.push(number_in(row, *slot) as usize)?;
         }
         Ok(())
+    }
+
+    /// Writes the row of the atom in place of what stood there: most rows that stand there have its length.
+    pub(crate) fn write(&self, row: &[u32], into: &mut Vec<usize>) -> Result<(), AllocError>
+        requires { All (fits_in (length row.now)) self.now.slots.items }
+        ensures { OnOk result (into.new.items ≡ row_under self.now row.now) }
+    {
+        if into.len() == self.slots.len() + 1 {
+            self.write_over(row, into.as_mut_slice());
+            return Ok(());
+        }
+        into.clear();
+        self.write_anew(row, into)
     }
 }

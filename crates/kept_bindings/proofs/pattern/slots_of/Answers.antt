@@ -1,6 +1,6 @@
 use Rattle.std.proofs.Common.{◌+◌, take}
 use Rattle.ground_names.proofs.Giving.{one_more}
-use Rattle.kept_bindings.proofs.Placing.{no_slots, slot_more}
+use Rattle.kept_bindings.proofs.Placing.{slot_more}
 use Rattle.kept_bindings.proofs.pattern.slots_of.Goals as goal
 
 pub loop-term-preserved : goal.loop-term-preserved
