@@ -4,13 +4,12 @@ use Rattle.std.specs.Prelude.{flat_map}
 use Rattle.std.specs.Borrow.{Bor}
 use Rattle.std.specs.BTreeSet.{insert_key}
 use Rattle.std.proofs.lemmas.List.{map-append}
-use Rattle.std.proofs.lemmas.Grind.{flat_map-append}
 use Rattle.plain_list.specs.Texts.{list_text, compare_texts}
 use Rattle.ppddl_model.specs.declared.tree.Atom.{Atom}
 use Rattle.ppddl_model.specs.declared.tree.InitBranch.{InitBranch}
 use Rattle.ppddl_model.specs.declared.tree.InitItem.TheVariants as item
 use Rattle.ppddl_model.specs.declared.tree.Param.{Param}
-use Rattle.ppddl_model.specs.Objects.{World, Binding, ground_atom, objects_of, bindings}
+use Rattle.ppddl_model.specs.Objects.{World, Binding, ground_atom, objects_of}
 use Rattle.type_table.specs.Types.{object_at}
 use Rattle.quantified_atoms.specs.Needed.{params_of}
 use Rattle.quantified_atoms.proofs.Alike.{grounds, opened}

@@ -106,10 +106,10 @@ put_twice (x ∷ texts) a =
     (λ (ax : compare_texts a x ≡ Equal). rw (ax, ax) refl)
     (λ (ax : compare_texts a x ≡ Greater). rw (ax, ax) (ap (λ l. x ∷ l) later))
 
-abbrev other : List ℕ → List ℕ → Bool
+abbrev pub other : List ℕ → List ℕ → Bool
 other y z = not (same_name y z)
 
-absorbed : (xs : List (List ℕ)) (y : List ℕ) (texts : List (List ℕ)) → list_all (other y) xs ≡ false → put (with_texts texts xs) y ≡ with_texts texts xs
+pub absorbed : (xs : List (List ℕ)) (y : List ℕ) (texts : List (List ℕ)) → list_all (other y) xs ≡ false → put (with_texts texts xs) y ≡ with_texts texts xs
 absorbed [] y texts there = absurd (true≢false there)
 absorbed (x ∷ xs) y texts there = by_test (same_name y x)
     (λ e. let same = (same_name-Decides y x).0 e in

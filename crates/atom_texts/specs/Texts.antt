@@ -9,7 +9,7 @@
 --     init_branch_texts x        of those of a branch of an item of `:init`
 --     chance_texts i             of those that an item may make true by chance
 --     fact_texts i               of the fact that an item names, if it names one
-use Rattle.std.specs.Prelude.{ℕ, cond, List, [], ◌∷◌, map, flat_map}
+use Rattle.std.specs.Prelude.{ℕ, cond, List, [], ◌∷◌, map}
 use Rattle.std.specs.BTreeSet.{insert_key}
 use Rattle.plain_list.specs.Texts.{list_text, compare_texts}
 use Rattle.ppddl_model.specs.declared.tree.Atom.{Atom}

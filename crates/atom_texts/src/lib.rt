@@ -5,9 +5,11 @@
 mod laws;
 mod literals;
 mod numbering;
+mod text_set;
 mod texts;
 
 pub use laws::text_laws;
 pub use literals::{add_first, add_under};
 pub use numbering::{name_set, texts_of_set};
+pub use text_set::TextSet;
 pub use texts::{add_chances, fact_texts};

@@ -6,25 +6,25 @@ ghost use Rattle.ground_names.specs.Scopes.{binding_of};
 ghost use Rattle.quantified_atoms.specs.Needed.{params_of};
 ghost use Rattle.atom_texts.specs.Texts.{with_texts, ground_texts, first_texts, under_texts};
 
+use crate::text_set::TextSet;
 use ground_names::{Scope, atom_text};
 use ground_sizes::objects_of;
 use plain_list::Text;
 use ppddl_model::{Atom, Param};
 use quantified_atoms::{QuantifiedAtom, is_settled};
 use std::alloc::{AllocError, Global};
-use std::collections::BTreeSet;
 use task_facts::TaskFacts;
 
 /// Puts in the texts of an atom under all ways to bind variables on top of the scope.
 fn add_ways<'x>(
     alloc: Global,
     facts: &'x TaskFacts<'_>,
-    texts: &mut BTreeSet<Text>,
+    texts: &mut TextSet,
     atom: &Atom,
     variables: &'x [&'x Param],
     scope: &'x Scope<'x>,
 ) -> Result<(), AllocError>
-    ensures { OnOk result (texts.new.keys ≡ with_texts texts.old.keys
+    ensures { OnOk result (texts.new ≡ with_texts texts.old
         (ground_texts (world facts.now) atom.now (params_of variables.now) (binding_of scope.now))) }
 {
     if variables.is_empty() {
@@ -56,11 +56,11 @@ fn add_ways<'x>(
 fn add_one_first(
     alloc: Global,
     facts: &TaskFacts<'_>,
-    texts: &mut BTreeSet<Text>,
+    texts: &mut TextSet,
     quantified: &QuantifiedAtom<'_>,
 ) -> Result<(), AllocError>
-    ensures { OnOk result (texts.new.keys
-        ≡ with_texts texts.old.keys (first_texts (world facts.now) quantified.now)) }
+    ensures { OnOk result (texts.new
+        ≡ with_texts texts.old (first_texts (world facts.now) quantified.now)) }
 {
     if !is_settled(quantified) {
         return Ok(());
@@ -79,11 +79,11 @@ fn add_one_first(
 fn add_one_under(
     alloc: Global,
     facts: &TaskFacts<'_>,
-    texts: &mut BTreeSet<Text>,
+    texts: &mut TextSet,
     quantified: &QuantifiedAtom<'_>,
     scope: &Scope<'_>,
 ) -> Result<(), AllocError>
-    ensures { OnOk result (texts.new.keys ≡ with_texts texts.old.keys
+    ensures { OnOk result (texts.new ≡ with_texts texts.old
         (under_texts (world facts.now) (binding_of scope.now) quantified.now)) }
 {
     if is_settled(quantified) {
@@ -104,11 +104,11 @@ fn add_one_under(
 pub fn add_first(
     alloc: Global,
     facts: &TaskFacts<'_>,
-    texts: &mut BTreeSet<Text>,
+    texts: &mut TextSet,
     atoms: &[QuantifiedAtom<'_>],
 ) -> Result<(), AllocError>
-    ensures { OnOk result (texts.new.keys
-        ≡ with_texts texts.old.keys (flat_map (first_texts (world facts.now)) atoms.now)) }
+    ensures { OnOk result (texts.new
+        ≡ with_texts texts.old (flat_map (first_texts (world facts.now)) atoms.now)) }
 {
     for quantified in atoms {
         add_one_first(alloc, facts, texts, quantified)?;
@@ -121,11 +121,11 @@ pub fn add_first(
 pub fn add_under(
     alloc: Global,
     facts: &TaskFacts<'_>,
-    texts: &mut BTreeSet<Text>,
+    texts: &mut TextSet,
     atoms: &[QuantifiedAtom<'_>],
     scope: &Scope<'_>,
 ) -> Result<(), AllocError>
-    ensures { OnOk result (texts.new.keys ≡ with_texts texts.old.keys
+    ensures { OnOk result (texts.new ≡ with_texts texts.old
         (flat_map (under_texts (world facts.now) (binding_of scope.now)) atoms.now)) }
 {
     for quantified in atoms {

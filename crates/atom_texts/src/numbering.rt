@@ -3,17 +3,17 @@
 ghost use Rattle.std.specs.Prelude.{◌≡◌, IfOk, IsTrue};
 ghost use Rattle.plain_list.specs.Texts.{compare_texts, rises};
 
+use crate::text_set::TextSet;
 use ground_names::NameSet;
 use plain_list::{List, Text};
 use std::alloc::{AllocError, Global};
-use std::collections::BTreeSet;
 
 /// The texts of a set, in bytewise order.
-pub fn texts_of_set(alloc: Global, set: BTreeSet<Text>) -> Result<List<Text>, AllocError>
-    ensures { IfOk result (λ texts. texts ≡ set.keys) }
+pub fn texts_of_set(alloc: Global, set: TextSet) -> Result<List<Text>, AllocError>
+    ensures { IfOk result (λ texts. texts ≡ set) }
 {
     let mut texts = Vec::new(alloc);
-    for text in set {
+    for text in set.in_order(alloc)? {
         texts.push(text)?;
     }
     Ok(List::from_vec(texts))

@@ -4,15 +4,15 @@ ghost use Rattle.std.specs.Prelude.{◌≡◌, [], flat_map, IfOk, OnOk};
 ghost use Rattle.atom_texts.specs.Texts.{with_texts, atom_texts, init_branch_texts};
 ghost use Rattle.atom_texts.specs.Texts.{chance_texts, fact_texts};
 
+use crate::text_set::TextSet;
 use ground_names::{Scope, atom_text};
 use plain_list::Text;
 use ppddl_model::{Atom, InitBranch, InitItem};
 use std::alloc::{AllocError, Global};
-use std::collections::BTreeSet;
 
 /// Puts in the texts of atoms without variables.
-fn add_atoms(alloc: Global, texts: &mut BTreeSet<Text>, atoms: &[Atom]) -> Result<(), AllocError>
-    ensures { OnOk result (texts.new.keys ≡ with_texts texts.old.keys (atom_texts atoms.now)) }
+fn add_atoms(alloc: Global, texts: &mut TextSet, atoms: &[Atom]) -> Result<(), AllocError>
+    ensures { OnOk result (texts.new ≡ with_texts texts.old (atom_texts atoms.now)) }
 {
     for atom in atoms {
         let text = atom_text(alloc, &Scope::Empty, atom)?;
@@ -24,11 +24,11 @@ fn add_atoms(alloc: Global, texts: &mut BTreeSet<Text>, atoms: &[Atom]) -> Resul
 /// Puts in those of the branches of an item of `:init`.
 fn add_branches(
     alloc: Global,
-    texts: &mut BTreeSet<Text>,
+    texts: &mut TextSet,
     branches: &[InitBranch],
 ) -> Result<(), AllocError>
-    ensures { OnOk result (texts.new.keys
-        ≡ with_texts texts.old.keys (flat_map init_branch_texts branches.now)) }
+    ensures { OnOk result (texts.new
+        ≡ with_texts texts.old (flat_map init_branch_texts branches.now)) }
 {
     for branch in branches {
         add_atoms(alloc, texts, branch.atoms.as_slice())?;
@@ -37,8 +37,8 @@ fn add_branches(
 }
 
 /// Puts in the texts of the atoms that an item of `:init` may make true by chance.
-fn add_chance(alloc: Global, texts: &mut BTreeSet<Text>, item: &InitItem) -> Result<(), AllocError>
-    ensures { OnOk result (texts.new.keys ≡ with_texts texts.old.keys (chance_texts item.now)) }
+fn add_chance(alloc: Global, texts: &mut TextSet, item: &InitItem) -> Result<(), AllocError>
+    ensures { OnOk result (texts.new ≡ with_texts texts.old (chance_texts item.now)) }
 {
     match item {
         InitItem::Chance(branches) => add_branches(alloc, texts, branches.as_slice()),
@@ -47,13 +47,9 @@ fn add_chance(alloc: Global, texts: &mut BTreeSet<Text>, item: &InitItem) -> Res
 }
 
 /// Puts in those of all items of `:init`.
-pub fn add_chances(
-    alloc: Global,
-    texts: &mut BTreeSet<Text>,
-    items: &[InitItem],
-) -> Result<(), AllocError>
-    ensures { OnOk result (texts.new.keys
-        ≡ with_texts texts.old.keys (flat_map chance_texts items.now)) }
+pub fn add_chances(alloc: Global, texts: &mut TextSet, items: &[InitItem]) -> Result<(), AllocError>
+    ensures { OnOk result (texts.new
+        ≡ with_texts texts.old (flat_map chance_texts items.now)) }
 {
     for item in items {
         add_chance(alloc, texts, item)?;
@@ -62,8 +58,8 @@ pub fn add_chances(
 }
 
 /// Puts in the text of the fact that an item of `:init` names, if it names one.
-fn add_fact(alloc: Global, texts: &mut BTreeSet<Text>, item: &InitItem) -> Result<(), AllocError>
-    ensures { OnOk result (texts.new.keys ≡ with_texts texts.old.keys (fact_texts item.now)) }
+fn add_fact(alloc: Global, texts: &mut TextSet, item: &InitItem) -> Result<(), AllocError>
+    ensures { OnOk result (texts.new ≡ with_texts texts.old (fact_texts item.now)) }
 {
     if let InitItem::Fact(atom) = item {
         let text = atom_text(alloc, &Scope::Empty, atom)?;
@@ -73,10 +69,10 @@ fn add_fact(alloc: Global, texts: &mut BTreeSet<Text>, item: &InitItem) -> Resul
 }
 
 /// The texts of the facts of `:init`.
-pub fn fact_texts(alloc: Global, items: &[InitItem]) -> Result<BTreeSet<Text>, AllocError>
-    ensures { IfOk result (λ texts. texts.keys ≡ with_texts [] (flat_map fact_texts items.now)) }
+pub fn fact_texts(alloc: Global, items: &[InitItem]) -> Result<TextSet, AllocError>
+    ensures { IfOk result (λ texts. texts ≡ with_texts [] (flat_map fact_texts items.now)) }
 {
-    let mut texts = BTreeSet::new(alloc);
+    let mut texts = TextSet::new(alloc);
     for item in items {
         add_fact(alloc, &mut texts, item)?;
     }

@@ -10,14 +10,13 @@ ghost use Rattle.task_atoms.specs.Atoms.{action_texts, row_texts};
 
 use crate::counting::are_too_many;
 use crate::under::add_under_row;
-use atom_texts::{add_chances, add_first, text_laws, texts_of_set};
+use atom_texts::{TextSet, add_chances, add_first, text_laws, texts_of_set};
 use ground_names::Scope;
 use kept_bindings::Rows;
 use plain_list::{List, Text};
 use ppddl_model::Action;
 use quantified_atoms::{AtomKind, QuantifiedAtom, atoms_of};
 use std::alloc::{AllocError, Global};
-use std::collections::BTreeSet;
 use task_facts::TaskFacts;
 
 /// Puts in the texts of those literals of a kept instance that name a parameter of its action. Its objects
@@ -25,13 +24,13 @@ use task_facts::TaskFacts;
 fn add_row(
     alloc: Global,
     facts: &TaskFacts<'_>,
-    texts: &mut BTreeSet<Text>,
+    texts: &mut TextSet,
     action: &Action,
     atoms: &[QuantifiedAtom<'_>],
     row: &[u32],
 ) -> Result<(), AllocError>
     requires { IsRow (table_of facts.now) (length action.now.params) row.now }
-    ensures { OnOk result (texts.new.keys ≡ with_texts texts.old.keys
+    ensures { OnOk result (texts.new ≡ with_texts texts.old
         (row_texts facts.now action.now atoms.now row.now)) }
 {
     let params = action.params.as_slice();
@@ -42,13 +41,13 @@ fn add_row(
 fn add_rows(
     alloc: Global,
     facts: &TaskFacts<'_>,
-    texts: &mut BTreeSet<Text>,
+    texts: &mut TextSet,
     action: &Action,
     atoms: &[QuantifiedAtom<'_>],
     kept: &Rows,
 ) -> Result<(), AllocError>
     requires { AreKept facts.now action.now kept.now }
-    ensures { OnOk result (texts.new.keys ≡ with_texts texts.old.keys
+    ensures { OnOk result (texts.new ≡ with_texts texts.old
         (flat_map (row_texts facts.now action.now atoms.now) kept.now.rows)) }
 {
     for place in 0..kept.len() {
@@ -61,13 +60,13 @@ fn add_rows(
 fn add_action(
     alloc: Global,
     facts: &TaskFacts<'_>,
-    texts: &mut BTreeSet<Text>,
+    texts: &mut TextSet,
     action: &Action,
     kept: &Rows,
 ) -> Result<(), AllocError>
     requires { AreKept facts.now action.now kept.now }
-    ensures { OnOk result (texts.new.keys
-        ≡ with_texts texts.old.keys (action_texts facts.now action.now)) }
+    ensures { OnOk result (texts.new
+        ≡ with_texts texts.old (action_texts facts.now action.now)) }
 {
     text_laws();
     if kept.len() == 0 {
@@ -82,13 +81,13 @@ fn add_action(
 fn add_actions(
     alloc: Global,
     facts: &TaskFacts<'_>,
-    texts: &mut BTreeSet<Text>,
+    texts: &mut TextSet,
     actions: &[Action],
     kept: &[Rows],
 ) -> Result<(), AllocError>
     requires { AllZip (AreKept facts.now) actions.now kept.now }
-    ensures { OnOk result (texts.new.keys
-        ≡ with_texts texts.old.keys (flat_map (action_texts facts.now) actions.now)) }
+    ensures { OnOk result (texts.new
+        ≡ with_texts texts.old (flat_map (action_texts facts.now) actions.now)) }
 {
     for (place, action) in actions.iter().enumerate() {
         add_action(alloc, facts, texts, action, &kept[place])?;
@@ -111,7 +110,7 @@ pub fn changing_texts(
     if are_too_many(alloc, facts, task.domain.actions.as_slice(), kept)? {
         return Err(AllocError);
     }
-    let mut texts = BTreeSet::new(alloc);
+    let mut texts = TextSet::new(alloc);
     add_actions(
         alloc,
         facts,

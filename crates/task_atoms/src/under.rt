@@ -7,13 +7,11 @@ ghost use Rattle.task_facts.specs.Facts.{table_of};
 ghost use Rattle.kept_bindings.specs.Kept.{bound_to};
 ghost use Rattle.atom_texts.specs.Texts.{with_texts, under_texts};
 
-use atom_texts::add_under;
+use atom_texts::{TextSet, add_under};
 use ground_names::Scope;
-use plain_list::Text;
 use ppddl_model::Param;
 use quantified_atoms::QuantifiedAtom;
 use std::alloc::{AllocError, Global};
-use std::collections::BTreeSet;
 use task_facts::TaskFacts;
 
 /// Puts in the texts of the atoms that name a parameter, where the parameters stand for the objects of a
@@ -21,7 +19,7 @@ use task_facts::TaskFacts;
 pub(crate) fn add_under_row<'x>(
     alloc: Global,
     facts: &'x TaskFacts<'_>,
-    texts: &mut BTreeSet<Text>,
+    texts: &mut TextSet,
     atoms: &[QuantifiedAtom<'_>],
     params: &'x [Param],
     row: &[u32],
@@ -29,7 +27,7 @@ pub(crate) fn add_under_row<'x>(
 ) -> Result<(), AllocError>
     requires long { length row.now ≡ length params.now }
     requires within { All (λ o. o < length (table_of facts.now).objects) row.now }
-    ensures { OnOk result (texts.new.keys ≡ with_texts texts.old.keys (flat_map (under_texts (world facts.now)
+    ensures { OnOk result (texts.new ≡ with_texts texts.old (flat_map (under_texts (world facts.now)
         (bound_to (table_of facts.now) params.now row.now (binding_of scope.now))) atoms.now)) }
 {
     if params.is_empty() {

@@ -19,7 +19,7 @@ loop-object-init t c =
     let listed : map (object_at table) items ≡ objects_of w first
     = ap (map (object_at table)) c.as_slice-object-items.ensures
     ∙ subst (λ (v : World). map (object_at v) c.in_ok-objects.objects ≡ objects_of v first) c.table.ensures.table c.in_ok-objects.ensures.objects in
-    ap (with_texts c.args.texts.now.keys)
+    ap (with_texts c.args.texts.now)
     (first_ways w table (binding_of c.args.scope.now) c.args.variables.now c.index-variables-0.result c.args.atom.now items
     (λ none. true≢false (sym (ap (λ k. k == 0) none) ∙ sym c.is_empty.ensures ∙ c.if-is_empty.false)) c.index-variables-0.is listed)
 
@@ -35,8 +35,8 @@ loop-object-preserved t c =
     let named = c.as_slice.ensures in
     let at : c.object_name.result.now ≡ object_at table o
     = c.object_name.ensures.name ∙ ap (λ (v : World). object_at v o) c.table-in-loop-object.ensures.table in
-    let put : c.add_ways.new.texts.keys ≡ with_texts c.loop-object.texts.keys (object_texts w table b (params_of (drop 1 vars)) first c.args.atom.now o)
+    let put : c.add_ways.new.texts ≡ with_texts c.loop-object.texts (object_texts w table b (params_of (drop 1 vars)) first c.args.atom.now o)
     = c.in_ok-add_ways.ensures
-    ∙ (λ i. with_texts c.loop-object.texts.keys (ground_texts w c.args.atom.now (params_of (tail_is vars i)) ((named i, at i) ∷ b))) in
-    texts_more (object_texts w table b (params_of (drop 1 vars)) first c.args.atom.now) items c.loop-object.object-index o 0 c.loop-object.texts.keys
-    c.add_ways.new.texts.keys _ c.loop-object-test.true refl put c.loop-object.invariant
+    ∙ (λ i. with_texts c.loop-object.texts (ground_texts w c.args.atom.now (params_of (tail_is vars i)) ((named i, at i) ∷ b))) in
+    texts_more (object_texts w table b (params_of (drop 1 vars)) first c.args.atom.now) items c.loop-object.object-index o 0 c.loop-object.texts
+    c.add_ways.new.texts _ c.loop-object-test.true refl put c.loop-object.invariant

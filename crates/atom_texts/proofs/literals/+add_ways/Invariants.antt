@@ -13,6 +13,6 @@ decreases-add_ways l = length l.variables.now
 
 abbrev pub invariant-loop-object : goal.invariant-loop-object
 invariant-loop-object l =
-    with_texts l.texts.keys (flat_map (object_texts (world l.facts) (table_of l.facts) (binding_of l.scope) (params_of (drop 1 l.variables)) l.first l.atom)
+    with_texts l.texts (flat_map (object_texts (world l.facts) (table_of l.facts) (binding_of l.scope) (params_of (drop 1 l.variables)) l.first l.atom)
     (drop l.object-index l.object-items))
-    ≡ with_texts l.fn.texts.keys (ground_texts (world l.facts) l.atom (params_of l.variables) (binding_of l.scope))
+    ≡ with_texts l.fn.texts (ground_texts (world l.facts) l.atom (params_of l.variables) (binding_of l.scope))

@@ -6,5 +6,5 @@ use Rattle.atom_texts.proofs.literals.add_first.Goals as goal
 pub loop-quantified-preserved : goal.loop-quantified-preserved
 loop-quantified-preserved c =
     texts_more (first_texts (world c.args.facts.now)) c.args.atoms.now c.loop-quantified.quantified-index c.quantified-item.result c.quantified-item.result
-    c.loop-quantified.texts.keys c.add_one_first.new.texts.keys _ c.loop-quantified-test.true c.quantified-item.is c.in_ok-add_one_first.ensures
+    c.loop-quantified.texts c.add_one_first.new.texts _ c.loop-quantified-test.true c.quantified-item.is c.in_ok-add_one_first.ensures
     c.loop-quantified.invariant

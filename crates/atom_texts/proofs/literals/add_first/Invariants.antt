@@ -6,5 +6,5 @@ use Rattle.atom_texts.proofs.literals.add_first.Given as goal
 
 abbrev pub invariant-loop-quantified : goal.invariant-loop-quantified
 invariant-loop-quantified l =
-    with_texts l.texts.keys (flat_map (first_texts (world l.facts)) (drop l.quantified-index l.atoms))
-    ≡ with_texts l.fn.texts.keys (flat_map (first_texts (world l.facts)) l.atoms)
+    with_texts l.texts (flat_map (first_texts (world l.facts)) (drop l.quantified-index l.atoms))
+    ≡ with_texts l.fn.texts (flat_map (first_texts (world l.facts)) l.atoms)

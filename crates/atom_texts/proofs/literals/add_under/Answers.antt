@@ -8,5 +8,5 @@ pub loop-quantified-preserved : goal.loop-quantified-preserved
 loop-quantified-preserved c =
     texts_more (under_texts (world c.args.facts.now) (binding_of c.args.scope.now)) c.args.atoms.now c.loop-quantified.quantified-index
     c.quantified-item.result c.quantified-item.result
-    c.loop-quantified.texts.keys c.add_one_under.new.texts.keys _ c.loop-quantified-test.true c.quantified-item.is c.in_ok-add_one_under.ensures
+    c.loop-quantified.texts c.add_one_under.new.texts _ c.loop-quantified-test.true c.quantified-item.is c.in_ok-add_one_under.ensures
     c.loop-quantified.invariant

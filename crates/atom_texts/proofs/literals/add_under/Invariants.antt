@@ -7,5 +7,5 @@ use Rattle.atom_texts.proofs.literals.add_under.Given as goal
 
 abbrev pub invariant-loop-quantified : goal.invariant-loop-quantified
 invariant-loop-quantified l =
-    with_texts l.texts.keys (flat_map (under_texts (world l.facts) (binding_of l.scope)) (drop l.quantified-index l.atoms))
-    ≡ with_texts l.fn.texts.keys (flat_map (under_texts (world l.facts) (binding_of l.scope)) l.atoms)
+    with_texts l.texts (flat_map (under_texts (world l.facts) (binding_of l.scope)) (drop l.quantified-index l.atoms))
+    ≡ with_texts l.fn.texts (flat_map (under_texts (world l.facts) (binding_of l.scope)) l.atoms)

@@ -7,7 +7,7 @@ use Rattle.atom_texts.proofs.texts.add_chance.Goals as goal
 
 pub returns-in-Chance : goal.returns-in-Chance
 returns-in-Chance c =
-    IfOk-equal c.add_branches.result c.add_branches.new.texts.keys (with_texts c.args.texts.now.keys (flat_map init_branch_texts c.as_slice.result.now))
-    (with_texts c.args.texts.now.keys (chance_texts c.args.item.now)) c.add_branches.ensures
-    (ap (with_texts c.args.texts.now.keys)
+    IfOk-equal c.add_branches.result c.add_branches.new.texts (with_texts c.args.texts.now (flat_map init_branch_texts c.as_slice.result.now))
+    (with_texts c.args.texts.now (chance_texts c.args.item.now)) c.add_branches.ensures
+    (ap (with_texts c.args.texts.now)
     (ap (flat_map init_branch_texts) c.as_slice.ensures ∙ of_branches c.in-Chance.branches ∙ ap chance_texts (sym c.in-Chance.is)))

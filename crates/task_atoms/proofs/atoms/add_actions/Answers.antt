@@ -20,5 +20,5 @@ add_action-requires c =
 pub loop-place-preserved : goal.loop-place-preserved
 loop-place-preserved c =
     texts_more (action_texts c.args.facts.now) c.args.actions.now c.loop-place.place c.index-actions-place.result c.index-actions-place.result
-    c.loop-place.texts.keys c.add_action.new.texts.keys _ c.loop-place-test.true c.index-actions-place.is c.in_ok-add_action.ensures
+    c.loop-place.texts c.add_action.new.texts _ c.loop-place-test.true c.index-actions-place.is c.in_ok-add_action.ensures
     c.loop-place.invariant

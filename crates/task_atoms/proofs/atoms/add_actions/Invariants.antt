@@ -6,5 +6,5 @@ use Rattle.task_atoms.proofs.atoms.add_actions.Given as goal
 
 abbrev pub invariant-loop-place : goal.invariant-loop-place
 invariant-loop-place l =
-    with_texts l.texts.keys (flat_map (action_texts l.facts) (drop l.place l.actions))
-    ≡ with_texts l.fn.texts.keys (flat_map (action_texts l.facts) l.actions)
+    with_texts l.texts (flat_map (action_texts l.facts) (drop l.place l.actions))
+    ≡ with_texts l.fn.texts (flat_map (action_texts l.facts) l.actions)

@@ -9,6 +9,6 @@ loop-place-preserved c =
     let texts : List ℕ → List (List ℕ) = row_texts c.args.facts.now c.args.action.now c.args.atoms.now in
     let within : c.loop-place.place < length c.args.kept.now.rows = omega (arith, c.len-place-end.ensures, c.loop-place-test.true) in
     texts_more texts c.args.kept.now.rows c.loop-place.place (get_or c.args.kept.now.rows c.loop-place.place []) []
-    c.loop-place.texts.keys c.add_row.new.texts.keys _ within refl
-    (c.in_ok-add_row.ensures ∙ ap (λ row. with_texts c.loop-place.texts.keys (texts row)) c.row.ensures)
+    c.loop-place.texts c.add_row.new.texts _ within refl
+    (c.in_ok-add_row.ensures ∙ ap (λ row. with_texts c.loop-place.texts (texts row)) c.row.ensures)
     c.loop-place.invariant

@@ -6,5 +6,5 @@ use Rattle.task_atoms.proofs.atoms.add_rows.Given as goal
 
 abbrev pub invariant-loop-place : goal.invariant-loop-place
 invariant-loop-place l =
-    with_texts l.texts.keys (flat_map (row_texts l.facts l.action l.atoms) (drop l.place l.kept.rows))
-    ≡ with_texts l.fn.texts.keys (flat_map (row_texts l.facts l.action l.atoms) l.kept.rows)
+    with_texts l.texts (flat_map (row_texts l.facts l.action l.atoms) (drop l.place l.kept.rows))
+    ≡ with_texts l.fn.texts (flat_map (row_texts l.facts l.action l.atoms) l.kept.rows)
