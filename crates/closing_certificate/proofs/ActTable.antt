@@ -1,10 +1,16 @@
 -- The table of acts: it has the names of the actions that rows take, and no other.
-use Rattle.std.proofs.Common.{◌≡◌, inl, inr, ℕ, suc, ◌+◌, ◌<◌, ◌≤◌, true, List, [], ◌∷◌, ◌++◌, length, Option, Some, None, refl, sym, ap, subst, arith, Ordering}
-use Rattle.std.specs.Prelude.{Contains}
+use Rattle.std.proofs.Common.{◌≡◌, inl, inr, ℕ, suc, ◌+◌, ◌<◌, ◌≤◌, true, List, [], ◌∷◌, ◌++◌, length, Option, Some, None, refl, sym, ap, subst, ◌∙◌, arith, Ordering}
+use Rattle.std.specs.Prelude.{Contains, get_or}
+use Rattle.std.specs.List.{slice_get}
 use Rattle.std.specs.BTreeSet.{insert_key}
 use Rattle.std.specs.Ordering.{match_ordering}
 use Rattle.std.specs.declared.cmp.Ordering.TheVariants.{Less, Equal, Greater}
+use Rattle.std.specs.Prelude.{option_map}
 use Rattle.std.proofs.lemmas.List.Concat.{flat_map-cons}
+use Rattle.std.proofs.lemmas.Option.{slice_get_cases, slice_get_past, slice_get-get_or}
+use Rattle.fixed_round.specs.Words.{code_of}
+use Rattle.ground_model.specs.declared.action.GroundAction.{GroundAction}
+use Rattle.certificate.specs.declared.act.Act.TheVariants.{Do}
 use Rattle.plain_list.specs.Texts.{compare_texts, rises}
 use Rattle.plain_list.proofs.Members.{Contains-first, Contains-later, Contains-cons_cases, Contains-nil, Contains-flat_map, Contains-flat_map_cases}
 use Rattle.ground_model.specs.Ground.{Ground}
@@ -13,7 +19,7 @@ use Rattle.certificate.specs.Numbering.{Among, filled, table_of, place_of}
 use Rattle.certificate.proofs.Sorted.{table_sorted, table_has, table_origin, sorted_rises, name_among, place_is_own}
 use Rattle.closing_certificate.specs.declared.kept_row.KeptRow.{KeptRow}
 use Rattle.closing_certificate.specs.Kept.{act_name, act_names, named}
-use Rattle.closing_certificate.specs.Tables.{HaveActsIn}
+use Rattle.closing_certificate.specs.Tables.{act_at, act_for, in_place, AreActPlaces, HasActIn, HaveActsIn}
 
 pub among_member : (texts : List (List ℕ)) (text : List ℕ) → Contains texts text → Among texts text
 among_member [] text inside = absurd (Contains-nil text inside)
@@ -90,3 +96,29 @@ module _ (g : Ground) (rows : List KeptRow) where
 
   pub act_place : (i : ℕ) → i < length acts → place_of acts (name_at acts i) ≡ i
   act_place i within = place_is_own acts i (name_at acts i) (table_sorted (act_names g rows)) within refl
+
+-- ---- the places of the actions' names, by code
+
+module _ (g : Ground) (acts : List (List ℕ)) (places : List ℕ) (are : AreActPlaces g acts places) (word : ℕ) (has : HasActIn g acts word) where
+  abbrev code : ℕ
+  code = code_of word
+
+  there_is : (a : GroundAction) → code < length g.actions → slice_get g.actions code ≡ Some a → act_at places word ≡ act_for acts (act_name g word)
+  there_is a within at =
+      let name : act_name g word ≡ Some a.name = ap (option_map (λ (x : GroundAction). x.name)) at in
+      let found : slice_get places code ≡ Some (get_or places code 0)
+      = slice_get-get_or places code 0 (let long = are.long in omega (arith, within)) in
+      ap in_place found
+      ∙ ap Do (are.placed code a.name name (has a.name name))
+      ∙ sym (ap (act_for acts) name)
+
+  there_is_none : length g.actions ≤ code → slice_get g.actions code ≡ None → act_at places word ≡ act_for acts (act_name g word)
+  there_is_none past at =
+      let found : slice_get places code ≡ None = slice_get_past places code (let long = are.long in omega (arith, past)) in
+      ap in_place found ∙ sym (ap (λ o. act_for acts (option_map (λ (x : GroundAction). x.name) o)) at)
+
+  pub act_is : act_at places word ≡ act_for acts (act_name g word)
+  act_is = elim (slice_get_cases g.actions code).1 [
+    | inl found ↦ there_is found.0 found.1 found.2
+    | inr past ↦ there_is_none past.0 past.1
+  ]

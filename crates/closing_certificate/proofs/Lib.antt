@@ -5,6 +5,7 @@ pub mod Insides
 pub mod Used
 pub mod Places
 pub mod ActTable
+pub mod Taken
 pub mod KeptRows
 pub mod Loops
 pub mod Order

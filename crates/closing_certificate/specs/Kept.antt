@@ -2,6 +2,7 @@
 --     IsShort row           the row's state has few words
 --     kept_of row           the row by the atoms that hold in its state
 --     kept_rows g rows      those of the rows that say more than is known of their states at first
+--     name_of_code g code   the name of the action of a code; None where there is no such action
 --     act_name g word       the name of the action that an upper word names; None where it names no action
 --     atoms_in rows         the atoms of all rows
 --     nothing n             the state of n words in which no atom holds
@@ -29,8 +30,11 @@ kept_of row = record { atoms = true_atoms row.state; lower = row.lower; upper = 
 abbrev pub kept_rows : Ground → List ImageRow → List KeptRow
 kept_rows g rows = map kept_of (filter (differs g) rows)
 
+abbrev pub name_of_code : Ground → ℕ → Option (List ℕ)
+name_of_code g code = option_map (λ (a : GroundAction). a.name) (slice_get g.actions code)
+
 abbrev pub act_name : Ground → ℕ → Option (List ℕ)
-act_name g word = option_map (λ (a : GroundAction). a.name) (slice_get g.actions (code_of word))
+act_name g word = name_of_code g (code_of word)
 
 abbrev pub atoms_in : List KeptRow → List ℕ
 atoms_in rows = flat_map (λ (r : KeptRow). r.atoms) rows

@@ -2,19 +2,25 @@
 --     ArePlaces numbers places     each number has its place among them
 --     place_in places q            the place of a number
 --     act_for acts name            to take the action of this name, by its place in the table; to give up where there is no name
+--     in_place place               to take the action in a place of the table; to give up where there is none
+--     act_at places word           the same by the places of the actions' names, by code
+--     AreTaken g taken names       the names rise, and have the name of each action that is marked as taken
+--     AreActPlaces g acts places   of each action whose name the table has, its place there, by code
 --     HasActIn g acts word         the table has the name of the action that the word names
 --     HaveActsIn g acts rows       the table has the names of the actions that rows take
 --     numbered_row g places acts r the row by these places
-use Rattle.std.specs.Prelude.{◌≡◌, ℕ, List, Option, Some, None, get_or, map, Contains}
+use Rattle.std.specs.Prelude.{◌≡◌, ℕ, Bool, true, false, List, Option, Some, None, get_or, length, map, Contains}
 use Rattle.std.specs.List.{slice_get}
-use Rattle.fixed_round.specs.Words.{value_of}
+use Rattle.std.specs.List.Sorted.{IsStrictlySortedBy}
+use Rattle.plain_list.specs.Texts.{compare_texts}
+use Rattle.fixed_round.specs.Words.{value_of, code_of}
 use Rattle.ground_model.specs.Ground.{Ground}
 use Rattle.certificate.specs.declared.act.Act.{Act}
 use Rattle.certificate.specs.declared.act.Act.TheVariants.{GiveUp, Do}
 use Rattle.certificate.specs.Rows.{Row}
 use Rattle.certificate.specs.Numbering.{Among, place_of}
 use Rattle.closing_certificate.specs.declared.kept_row.KeptRow.{KeptRow}
-use Rattle.closing_certificate.specs.Kept.{act_name}
+use Rattle.closing_certificate.specs.Kept.{act_name, name_of_code}
 
 abbrev pub place_in : List ℕ → ℕ → ℕ
 place_in places q = get_or places q 0
@@ -25,6 +31,22 @@ ArePlaces numbers places = (k q : ℕ) → slice_get numbers k ≡ Some q → pl
 abbrev pub act_for : List (List ℕ) → Option (List ℕ) → Act
 act_for acts None = GiveUp
 act_for acts (Some name) = Do (place_of acts name)
+
+abbrev pub in_place : Option ℕ → Act
+in_place None = GiveUp
+in_place (Some place) = Do place
+
+abbrev pub act_at : List ℕ → ℕ → Act
+act_at places word = in_place (slice_get places (code_of word))
+
+pub record AreTaken (g : Ground) (taken : List Bool) (names : List (List ℕ)) : Type 0 where
+  pub long : length taken ≡ length g.actions
+  pub sorted : IsStrictlySortedBy compare_texts names
+  pub had : (code : ℕ) (name : List ℕ) → get_or taken code false ≡ true → name_of_code g code ≡ Some name → Among names name
+
+pub record AreActPlaces (g : Ground) (acts : List (List ℕ)) (places : List ℕ) : Type 0 where
+  pub long : length places ≡ length g.actions
+  pub placed : (code : ℕ) (name : List ℕ) → name_of_code g code ≡ Some name → Among acts name → place_in places code ≡ place_of acts name
 
 abbrev pub HasActIn : Ground → List (List ℕ) → ℕ → Type 0
 HasActIn g acts word = (name : List ℕ) → act_name g word ≡ Some name → Among acts name

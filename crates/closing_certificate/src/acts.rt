@@ -1,11 +1,11 @@
 //! The table of acts: the names of the actions that some row takes, in rising order.
 
-ghost use Rattle.std.specs.Prelude.{◌≡◌, ◌≤◌, IfOk, IsTrue, length, option_map};
+ghost use Rattle.std.specs.Prelude.{◌≡◌, ◌≤◌, IfOk, OnOk, IsTrue, length};
 ghost use Rattle.plain_list.specs.Texts.{compare_texts, rises};
 ghost use Rattle.certificate.specs.declared.limits.TheConstants.{MOST_COUNT};
-ghost use Rattle.certificate.specs.Numbering.{table_of};
-ghost use Rattle.closing_certificate.specs.Kept.{act_name, act_names};
-ghost use Rattle.closing_certificate.specs.Tables.{act_for, HasActIn};
+ghost use Rattle.certificate.specs.Numbering.{Among, filled, place_of, table_of};
+ghost use Rattle.closing_certificate.specs.Kept.{act_name, act_names, named};
+ghost use Rattle.closing_certificate.specs.Tables.{act_at, AreActPlaces, AreTaken};
 
 use crate::kept_row::KeptRow;
 use certificate::{Act, MOST_COUNT};
@@ -13,14 +13,6 @@ use fixed_round::UpperWord;
 use ground_model::{GroundProblem, List, Text};
 use std::alloc::{AllocError, Global};
 use std::collections::BTreeSet;
-
-/// The name of the action that an upper word names. None where it gives up.
-fn act_name<'p>(problem: &'p GroundProblem, word: UpperWord) -> Option<&'p Text>
-    ensures { option_map (λ name. name.now) result ≡ act_name problem.now word }
-{
-    let action = problem.actions().get(word.code() as usize)?;
-    Some(&action.name)
-}
 
 /// The texts of a set, in order.
 fn entries_of(alloc: Global, names: BTreeSet<Text>) -> Result<List<Text>, AllocError>
@@ -33,7 +25,33 @@ fn entries_of(alloc: Global, names: BTreeSet<Text>) -> Result<List<Text>, AllocE
     Ok(List::from_vec(entries))
 }
 
-/// The names of the actions that some row takes, in rising order and each once.
+/// Puts the name of the action that an upper word names into a set, unless the action is marked as one whose name was
+/// put there before.
+fn put_name(
+    problem: &GroundProblem,
+    taken: &mut [bool],
+    names: &mut BTreeSet<Text>,
+    word: UpperWord,
+) -> Result<(), AllocError>
+    requires { AreTaken problem.now taken.old names.old.keys }
+    ensures taken { OnOk result (AreTaken problem.now taken.new names.new.keys) }
+    ensures names { OnOk result
+        (names.new.keys ≡ filled names.old.keys (named (act_name problem.now word))) }
+{
+    let code = word.code() as usize;
+    let Some(action) = problem.actions().get(code) else {
+        return Ok(());
+    };
+    if taken[code] {
+        return Ok(());
+    }
+    names.insert(action.name.clone()?)?;
+    taken[code] = true;
+    Ok(())
+}
+
+/// The names of the actions that some row takes, in rising order and each once. A name is copied once for an action,
+/// however many rows take it.
 pub(crate) fn acts_table(
     alloc: Global,
     problem: &GroundProblem,
@@ -41,25 +59,48 @@ pub(crate) fn acts_table(
 ) -> Result<List<Text>, AllocError>
     ensures { IfOk result (λ table. table ≡ table_of (act_names problem.now rows.now)) }
 {
+    let mut taken = vec![in alloc; false; problem.actions().len()]?;
     let mut names = BTreeSet::new(alloc);
     for row in rows {
-        if let Some(name) = act_name(problem, row.upper) {
-            names.insert(name.clone()?)?;
-        }
+        put_name(problem, &mut taken, &mut names, row.upper)?;
     }
     entries_of(alloc, names)
 }
 
-/// What an upper word says to do, by the table of acts.
-pub(crate) fn act_of(problem: &GroundProblem, acts: &[Text], word: UpperWord) -> Act
+/// The place of a name in the table of acts, if the table has it.
+fn place_of(acts: &[Text], name: &Text) -> u32
     requires rises { IsTrue (rises compare_texts acts.now) }
     requires few { length acts.now ≤ MOST_COUNT }
-    requires has { HasActIn problem.now acts.now word }
-    ensures { result ≡ act_for acts.now (act_name problem.now word) }
+    ensures { Among acts.now name.now → result ≡ place_of acts.now name.now }
 {
-    let Some(name) = act_name(problem, word) else {
-        return Act::GiveUp;
-    };
     let (Ok(place) | Err(place)) = acts.binary_search(name);
-    Act::Do(place as u32)
+    place as u32
+}
+
+/// Of each action, by its code, the place of its name in the table of acts, if the table has it.
+pub(crate) fn places_of_acts(
+    alloc: Global,
+    problem: &GroundProblem,
+    acts: &[Text],
+) -> Result<Vec<u32>, AllocError>
+    requires rises { IsTrue (rises compare_texts acts.now) }
+    requires few { length acts.now ≤ MOST_COUNT }
+    ensures { IfOk result (λ places. AreActPlaces problem.now acts.now places.items) }
+{
+    let actions = problem.actions();
+    let mut places = Vec::with_capacity(alloc, actions.len())?;
+    for action in actions {
+        places.push(place_of(acts, &action.name))?;
+    }
+    Ok(places)
+}
+
+/// What an upper word says to do, by the places of the actions' names in the table of acts.
+pub(crate) fn act_of(places: &[u32], word: UpperWord) -> Act
+    ensures { result ≡ act_at places.now word }
+{
+    match places.get(word.code() as usize) {
+        None => Act::GiveUp,
+        Some(place) => Act::Do(*place),
+    }
 }

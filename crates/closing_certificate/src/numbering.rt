@@ -7,7 +7,7 @@ ghost use Rattle.certificate.specs.declared.limits.TheConstants.{MOST_COUNT};
 ghost use Rattle.closing_certificate.specs.Kept.{HaveAtomsBelow};
 ghost use Rattle.closing_certificate.specs.Tables.{place_in, HaveActsIn, numbered_row};
 
-use crate::acts::act_of;
+use crate::acts::{act_of, places_of_acts};
 use crate::kept_row::KeptRow;
 use certificate::{MOST_COUNT, RowView, Rows};
 use ground_model::{GroundProblem, Text};
@@ -40,6 +40,7 @@ pub(crate) fn numbered_rows(
     ensures { IfOk result (λ numbered. numbered
         ≡ map (numbered_row problem.now places.now acts.now) rows.now) }
 {
+    let act_places = places_of_acts(alloc, problem, acts)?;
     let mut numbered = Rows::new(alloc);
     let mut numbers = Vec::new(alloc);
     for row in rows {
@@ -47,7 +48,7 @@ pub(crate) fn numbered_rows(
         numbered.push(RowView {
             lower: row.lower,
             upper: row.upper.value(),
-            act: act_of(problem, acts, row.upper),
+            act: act_of(&act_places, row.upper),
             atoms: &numbers,
         })?;
     }
