@@ -7,14 +7,14 @@ use Rattle.plain_list.specs.Texts.{list_text}
 use Rattle.ppddl_model.specs.declared.tree.Action.{Action}
 use Rattle.ppddl_model.specs.declared.tree.Task.{Task}
 use Rattle.ppddl_model.specs.State.{GroundAtom}
-use Rattle.ppddl_model.specs.Objects.{World, Binding, bindings}
+use Rattle.ppddl_model.specs.Objects.{World, Binding}
 use Rattle.ppddl_model.specs.Steps.{world}
 use Rattle.ppddl_model.specs.Changing.{literals}
 use Rattle.type_table.proofs.Lists.{by_test}
 use Rattle.task_facts.specs.Facts.{table_of}
 use Rattle.quantified_atoms.specs.declared.quantified_atom.QuantifiedAtom.{QuantifiedAtom}
 use Rattle.quantified_atoms.specs.declared.atom_kind.AtomKind.TheVariants.{Literal}
-use Rattle.quantified_atoms.specs.Quantified.{variables_of, is_settled, instances_of, passes, all_pass, HasAtoms}
+use Rattle.quantified_atoms.specs.Quantified.{variables_of, is_settled, instances_of, passes, HasAtoms}
 use Rattle.quantified_atoms.proofs.Alike.{settled_alike}
 use Rattle.quantified_atoms.proofs.MoreVariables.{all-flat, all_same, all_both, all_const}
 use Rattle.kept_bindings.specs.Rows.{Table}
