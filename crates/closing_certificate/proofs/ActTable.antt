@@ -17,7 +17,7 @@ use Rattle.ground_model.specs.Ground.{Ground}
 use Rattle.certificate.specs.Content.{name_at}
 use Rattle.certificate.specs.Numbering.{Among, filled, table_of, place_of}
 use Rattle.certificate.proofs.Sorted.{table_sorted, table_has, table_origin, sorted_rises, name_among, place_is_own}
-use Rattle.closing_certificate.specs.declared.kept_row.KeptRow.{KeptRow}
+use Rattle.closing_certificate.specs.RowsKept.{KeptRow}
 use Rattle.closing_certificate.specs.Kept.{act_name, act_names, named}
 use Rattle.closing_certificate.specs.Tables.{act_at, act_for, in_place, AreActPlaces, HasActIn, HaveActsIn}
 

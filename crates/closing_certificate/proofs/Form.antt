@@ -34,7 +34,7 @@ use Rattle.certificate_check.specs.Claims.{number_at, numbers_of, are_known, lis
 use Rattle.closing_bounds.specs.Closing.{act_in, closing_row, differs, IsClosing}
 use Rattle.closing_bounds.specs.Ends.{closing_low, closing_high}
 use Rattle.closing_bounds.proofs.Reading.{lower_within, upper_within}
-use Rattle.closing_certificate.specs.declared.kept_row.KeptRow.{KeptRow}
+use Rattle.closing_certificate.specs.RowsKept.{KeptRow}
 use Rattle.closing_certificate.specs.Certificates.{HasNameLists}
 use Rattle.closing_certificate.specs.Kept.{kept_of, kept_rows, act_name, act_names, used_atoms}
 use Rattle.closing_certificate.specs.Tables.{place_in, ArePlaces, act_for, numbered_row}

@@ -20,7 +20,7 @@ use Rattle.bound_core.specs.declared.image.ImageRow.{ImageRow}
 use Rattle.bound_core.specs.Numbers.{first_word}
 use Rattle.closing_bounds.specs.Closing.{act_in, closing_row, closing_rows, differs, IsClosing}
 use Rattle.closing_bounds.proofs.Reading.{row_read, first_at_goal}
-use Rattle.closing_certificate.specs.declared.kept_row.KeptRow.{KeptRow}
+use Rattle.closing_certificate.specs.RowsKept.{KeptRow}
 use Rattle.closing_certificate.specs.Kept.{kept_of, kept_rows}
 use Rattle.closing_certificate.proofs.Lists.{Contains-filter, Contains-filter_cases, filter_at_most, member_below, pairs_mapped, pairs_unmapped}
 use Rattle.closing_certificate.proofs.AtomSets.{atom_below, state_back}

@@ -8,6 +8,7 @@ pub mod ActTable
 pub mod Taken
 pub mod KeptRows
 pub mod Loops
+pub mod Apart
 pub mod Order
 pub mod Steps
 pub mod Form

@@ -8,7 +8,7 @@ use Rattle.ground_model.specs.Packed.{State}
 use Rattle.ground_model.specs.Ground.{Ground}
 use Rattle.ground_step.specs.Edits.{with_atom, with_atoms}
 use Rattle.certificate.specs.Numbering.{filled}
-use Rattle.closing_certificate.specs.declared.kept_row.KeptRow.{KeptRow}
+use Rattle.closing_certificate.specs.RowsKept.{KeptRow}
 use Rattle.closing_certificate.specs.Kept.{atoms_in, act_name, act_names, named}
 
 with_atoms-append : (s : State) (xs ys : List ℕ) → with_atoms s (xs ++ ys) ≡ with_atoms (with_atoms s xs) ys

@@ -23,7 +23,7 @@ use Rattle.certificate_check.specs.Claims.{knows, row_of, rows_of, act_of, IsBal
 use Rattle.certificate_check.proofs.Distinct as cert
 use Rattle.closing_bounds.specs.Closing.{act_in, closing_row, closing_rows, differs}
 use Rattle.closing_bounds.proofs.Reading.{states_exact, row_read, first_at_goal, first_off_goal}
-use Rattle.closing_certificate.specs.declared.kept_row.KeptRow.{KeptRow}
+use Rattle.closing_certificate.specs.RowsKept.{KeptRow}
 use Rattle.closing_certificate.specs.Kept.{kept_of}
 use Rattle.closing_certificate.specs.Tables.{numbered_row}
 use Rattle.closing_certificate.specs.Certificates.{ReadAlike, HasRow, HasDiffering, IsCertificateOf}

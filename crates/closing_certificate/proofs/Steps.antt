@@ -6,7 +6,7 @@ use Rattle.ground_model.specs.Ground.{Ground}
 use Rattle.ground_model.specs.Invariant.{IsGroundProblem}
 use Rattle.bound_core.specs.declared.image.ImageRow.{ImageRow}
 use Rattle.closing_bounds.specs.Closing.{IsClosing}
-use Rattle.closing_certificate.specs.declared.kept_row.KeptRow.{KeptRow}
+use Rattle.closing_certificate.specs.RowsKept.{KeptRow}
 use Rattle.closing_certificate.specs.Kept.{IsShort, kept_rows, used_atoms, HaveAtomsBelow}
 use Rattle.closing_certificate.proofs.Lists.{members_all}
 use Rattle.closing_certificate.proofs.Insides.{reached_inside, inside_short}

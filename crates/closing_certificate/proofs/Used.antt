@@ -11,7 +11,7 @@ use Rattle.ground_model.specs.Ground.{Ground}
 use Rattle.ground_model.proofs.Packed.{has_bit-packed, length-packed}
 use Rattle.ground_step.specs.Edits.{with_atoms}
 use Rattle.ground_step.proofs.Edits.{with_atoms-none}
-use Rattle.closing_certificate.specs.declared.kept_row.KeptRow.{KeptRow}
+use Rattle.closing_certificate.specs.RowsKept.{KeptRow}
 use Rattle.closing_certificate.specs.Kept.{nothing, atoms_in, used_atoms}
 use Rattle.closing_certificate.proofs.Lists.{filter_at_most}
 use Rattle.closing_certificate.proofs.AtomSets.{member_is, is_member_of, atoms_rise, atom_holds, holding_atom, few_words}

@@ -19,7 +19,7 @@ use Rattle.ground_step.specs.Atoms.{true_atoms}
 use Rattle.ground_step.specs.Edits.{with_atoms}
 use Rattle.bound_core.specs.declared.image.ImageRow.{ImageRow}
 use Rattle.closing_bounds.specs.Closing.{differs}
-use Rattle.closing_certificate.specs.declared.kept_row.KeptRow.{KeptRow}
+use Rattle.closing_certificate.specs.RowsKept.{KeptRow}
 
 abbrev pub IsShort : ImageRow → Type 0
 IsShort row = 64 * length row.state < 2 ^ 32

@@ -1,3 +1,5 @@
+pub mod Order
+pub mod RowsKept
 pub mod Kept
 pub mod Tables
 pub mod Certificates

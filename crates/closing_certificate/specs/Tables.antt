@@ -19,7 +19,7 @@ use Rattle.certificate.specs.declared.act.Act.{Act}
 use Rattle.certificate.specs.declared.act.Act.TheVariants.{GiveUp, Do}
 use Rattle.certificate.specs.Rows.{Row}
 use Rattle.certificate.specs.Numbering.{Among, place_of}
-use Rattle.closing_certificate.specs.declared.kept_row.KeptRow.{KeptRow}
+use Rattle.closing_certificate.specs.RowsKept.{KeptRow}
 use Rattle.closing_certificate.specs.Kept.{act_name, name_of_code}
 
 abbrev pub place_in : List ℕ → ℕ → ℕ
@@ -42,11 +42,13 @@ act_at places word = in_place (slice_get places (code_of word))
 pub record AreTaken (g : Ground) (taken : List Bool) (names : List (List ℕ)) : Type 0 where
   pub long : length taken ≡ length g.actions
   pub sorted : IsStrictlySortedBy compare_texts names
-  pub had : (code : ℕ) (name : List ℕ) → get_or taken code false ≡ true → name_of_code g code ≡ Some name → Among names name
+  pub had : (code : ℕ) (name : List ℕ) → get_or taken code false ≡ true
+      → name_of_code g code ≡ Some name → Among names name
 
 pub record AreActPlaces (g : Ground) (acts : List (List ℕ)) (places : List ℕ) : Type 0 where
   pub long : length places ≡ length g.actions
-  pub placed : (code : ℕ) (name : List ℕ) → name_of_code g code ≡ Some name → Among acts name → place_in places code ≡ place_of acts name
+  pub placed : (code : ℕ) (name : List ℕ) → name_of_code g code ≡ Some name → Among acts name
+      → place_in places code ≡ place_of acts name
 
 abbrev pub HasActIn : Ground → List (List ℕ) → ℕ → Type 0
 HasActIn g acts word = (name : List ℕ) → act_name g word ≡ Some name → Among acts name

@@ -55,14 +55,14 @@ fn put_name(
 pub(crate) fn acts_table(
     alloc: Global,
     problem: &GroundProblem,
-    rows: &[KeptRow],
+    rows: &[KeptRow<'_>],
 ) -> Result<List<Text>, AllocError>
     ensures { IfOk result (λ table. table ≡ table_of (act_names problem.now rows.now)) }
 {
     let mut taken = vec![in alloc; false; problem.actions().len()]?;
     let mut names = BTreeSet::new(alloc);
     for row in rows {
-        put_name(problem, &mut taken, &mut names, row.upper)?;
+        put_name(problem, &mut taken, &mut names, row.upper())?;
     }
     entries_of(alloc, names)
 }

@@ -13,21 +13,21 @@ use ground_model::{GroundProblem, List, State, Text};
 use ground_step::{atoms_of, make_true};
 use std::alloc::{AllocError, Global};
 
-/// Makes these atoms true.
-fn mark(marks: &mut State, atoms: &[u32])
-    ensures { marks.new ≡ with_atoms marks.old atoms.now }
+/// Makes the atoms of a row true.
+fn mark(marks: &mut State, row: &KeptRow<'_>)
+    ensures { marks.new ≡ with_atoms marks.old row.now.atoms }
 {
-    for atom in atoms {
-        make_true(marks, *atom);
+    for atom in row.atoms() {
+        make_true(marks, atom);
     }
 }
 
 /// Makes the atoms of each row true.
-fn mark_all(marks: &mut State, rows: &[KeptRow])
+fn mark_all(marks: &mut State, rows: &[KeptRow<'_>])
     ensures { marks.new ≡ with_atoms marks.old (atoms_in rows.now) }
 {
     for row in rows {
-        mark(marks, row.atoms.as_slice());
+        mark(marks, row);
     }
 }
 
@@ -45,7 +45,7 @@ fn nothing(alloc: Global, problem: &GroundProblem) -> Result<State, AllocError>
 pub(crate) fn used_atoms(
     alloc: Global,
     problem: &GroundProblem,
-    rows: &[KeptRow],
+    rows: &[KeptRow<'_>],
 ) -> Result<List<u32>, AllocError>
     ensures { IfOk result (λ used. used ≡ used_atoms problem.now rows.now) }
 {

@@ -4,13 +4,13 @@ ghost use Rattle.std.specs.Prelude.{◌≡◌, IfOk};
 ghost use Rattle.std.specs.List.{All};
 ghost use Rattle.bound_core.specs.Numbers.{first_word};
 ghost use Rattle.closing_bounds.specs.Closing.{differs};
-ghost use Rattle.closing_certificate.specs.Kept.{IsShort, kept_of, kept_rows};
+ghost use Rattle.closing_certificate.specs.Kept.{IsShort, kept_rows};
 
 use crate::kept_row::KeptRow;
 use bound_core::{AT_GOAL, GIVE_UP, ImageRow};
 use fixed_round::UpperWord;
 use ground_model::{GroundProblem, State};
-use ground_step::{atoms_of, is_goal};
+use ground_step::is_goal;
 use std::alloc::{AllocError, Global};
 
 /// The upper word of a state of which nothing is known yet.
@@ -32,31 +32,19 @@ fn differs(problem: &GroundProblem, row: &ImageRow) -> bool
     !is_first
 }
 
-/// The row by its atoms.
-fn kept_of(alloc: Global, row: &ImageRow) -> Result<KeptRow, AllocError>
-    requires { IsShort row.now }
-    ensures { IfOk result (λ kept. kept ≡ kept_of row.now) }
-{
-    Ok(KeptRow {
-        atoms: atoms_of(alloc, &row.state)?,
-        lower: row.lower,
-        upper: row.upper,
-    })
-}
-
 /// The rows that say more than is known of their states at first, in their order.
-pub(crate) fn kept_rows(
+pub(crate) fn kept_rows<'p>(
     alloc: Global,
     problem: &GroundProblem,
-    rows: &[ImageRow],
-) -> Result<Vec<KeptRow>, AllocError>
+    rows: &'p [ImageRow],
+) -> Result<Vec<KeptRow<'p>>, AllocError>
     requires { All IsShort rows.now }
     ensures { IfOk result (λ kept. kept.items ≡ kept_rows problem.now rows.now) }
 {
     let mut kept = Vec::new(alloc);
     for row in rows {
         if differs(problem, row) {
-            kept.push(kept_of(alloc, row)?)?;
+            kept.push(KeptRow::new(row))?;
         }
     }
     Ok(kept)

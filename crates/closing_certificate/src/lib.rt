@@ -8,5 +8,6 @@ mod building;
 mod kept;
 mod kept_row;
 mod numbering;
+mod state_order;
 
 pub use building::certificate_of;

@@ -13,14 +13,14 @@ use certificate::{MOST_COUNT, RowView, Rows};
 use ground_model::{GroundProblem, Text};
 use std::alloc::{AllocError, Global};
 
-/// Puts the places of atoms in place of the numbers that stand there.
-fn take_places(numbers: &mut Vec<u32>, places: &[u32], atoms: &[u32]) -> Result<(), AllocError>
-    requires { All (λ q. q < length places.now) atoms.now }
-    ensures { OnOk result (numbers.new.items ≡ map (place_in places.now) atoms.now) }
+/// Puts the places of a row's atoms in place of the numbers that stand there.
+fn take_places(numbers: &mut Vec<u32>, places: &[u32], row: &KeptRow<'_>) -> Result<(), AllocError>
+    requires { All (λ q. q < length places.now) row.now.atoms }
+    ensures { OnOk result (numbers.new.items ≡ map (place_in places.now) row.now.atoms) }
 {
     numbers.clear();
-    for atom in atoms {
-        numbers.push(places[*atom as usize])?;
+    for atom in row.atoms() {
+        numbers.push(places[atom as usize])?;
     }
     Ok(())
 }
@@ -31,7 +31,7 @@ pub(crate) fn numbered_rows(
     problem: &GroundProblem,
     places: &[u32],
     acts: &[Text],
-    rows: &[KeptRow],
+    rows: &[KeptRow<'_>],
 ) -> Result<Rows, AllocError>
     requires atoms { HaveAtomsBelow (length places.now) rows.now }
     requires rises { IsTrue (rises compare_texts acts.now) }
@@ -44,11 +44,11 @@ pub(crate) fn numbered_rows(
     let mut numbered = Rows::new(alloc);
     let mut numbers = Vec::new(alloc);
     for row in rows {
-        take_places(&mut numbers, places, row.atoms.as_slice())?;
+        take_places(&mut numbers, places, row)?;
         numbered.push(RowView {
-            lower: row.lower,
-            upper: row.upper.value(),
-            act: act_of(&act_places, row.upper),
+            lower: row.lower(),
+            upper: row.upper().value(),
+            act: act_of(&act_places, row.upper()),
             atoms: &numbers,
         })?;
     }

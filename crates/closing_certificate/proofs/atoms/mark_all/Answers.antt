@@ -8,6 +8,6 @@ use Rattle.closing_certificate.proofs.atoms.mark_all.Goals as goal
 pub loop-row-preserved : goal.loop-row-preserved
 loop-row-preserved c =
     ap (λ s. with_atoms s (atoms_in (drop (c.loop-row.row-index + 1) c.args.rows.now)))
-    (c.mark.ensures ∙ ap (with_atoms c.loop-row.marks) c.as_slice.ensures)
+    c.mark.ensures
     ∙ sym (atoms_more c.loop-row.marks c.args.rows.now c.loop-row.row-index c.row-item.result c.loop-row-test.true c.row-item.is)
     ∙ c.loop-row.invariant

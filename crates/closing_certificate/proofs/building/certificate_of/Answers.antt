@@ -8,7 +8,7 @@ use Rattle.bound_core.specs.declared.image.ImageRow.{ImageRow}
 use Rattle.certificate.specs.Content.{content_of, name_at, IsCertificate}
 use Rattle.certificate.specs.Numbering.{table_of}
 use Rattle.closing_bounds.specs.Ends.{closing_low, closing_high}
-use Rattle.closing_certificate.specs.declared.kept_row.KeptRow.{KeptRow}
+use Rattle.closing_certificate.specs.RowsKept.{KeptRow}
 use Rattle.closing_certificate.specs.Kept.{IsShort, kept_rows, used_atoms, act_names, HaveAtomsBelow}
 use Rattle.closing_certificate.specs.Tables.{ArePlaces, HaveActsIn, numbered_row}
 use Rattle.closing_certificate.specs.Certificates.{IsCertificateOf}

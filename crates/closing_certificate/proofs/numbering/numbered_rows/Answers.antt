@@ -1,9 +1,10 @@
 -- A row says the act whose place stands at its code.
 use Rattle.std.proofs.Common.{◌≡◌, [], ◌∷◌, ◌++◌, map, take, sym, ap, ◌∙◌}
 use Rattle.std.proofs.lemmas.List.{map_more}
-use Rattle.closing_certificate.specs.declared.kept_row.KeptRow.{KeptRow}
+use Rattle.fixed_round.specs.Words.{value_of}
+use Rattle.closing_certificate.specs.RowsKept.{KeptRow}
 use Rattle.closing_certificate.specs.Kept.{act_name}
-use Rattle.closing_certificate.specs.Tables.{act_at, act_for, place_in, numbered_row}
+use Rattle.closing_certificate.specs.Tables.{act_at, act_for, numbered_row}
 use Rattle.closing_certificate.proofs.ActTable.{act_is}
 use Rattle.closing_certificate.proofs.numbering.numbered_rows.Goals as goal
 
@@ -12,11 +13,12 @@ loop-row-preserved c =
     let g = c.args.problem.now in let acts = c.args.acts.now in let places = c.args.places.now in let rows = c.args.rows.now in
     let row = c.row-item.result in let act_places = c.in_ok-act_places.act_places.items in
     let act : c.act_of.result ≡ act_for acts (act_name g row.upper)
-    = c.act_of.ensures ∙ ap (λ p. act_at p row.upper) c.deref.ensures.value
+    = c.act_of.ensures ∙ (λ j. act_at (c.deref.ensures.value j) (c.upper-in-loop-row.ensures j))
     ∙ act_is g acts act_places c.in_ok-act_places.ensures row.upper
     (c.requires.has row (c.loop-row.row-index, c.loop-row-test.true, sym c.row-item.is)) in
-    let atoms = c.deref-in-loop-row.ensures.value ∙ c.in_ok-take_places.ensures ∙ ap (λ l. map (place_in places) l) c.as_slice.ensures in
+    let atoms = c.deref-in-loop-row.ensures.value ∙ c.in_ok-take_places.ensures in
+    let upper = c.value.ensures ∙ ap value_of c.upper.ensures in
     c.in_ok-push.ensures.pushed
-    ∙ (λ j. c.loop-row.invariant j ++ record { lower = row.lower; upper = c.value.ensures j; act = act j; atoms = atoms j } ∷ [])
+    ∙ (λ j. c.loop-row.invariant j ++ record { lower = c.lower.ensures j; upper = upper j; act = act j; atoms = atoms j } ∷ [])
     ∙ ap (λ (r : KeptRow). map (numbered_row g places acts) (take c.loop-row.row-index rows) ++ numbered_row g places acts r ∷ []) c.row-item.is
     ∙ sym (map_more (numbered_row g places acts) rows c.loop-row.row-index row c.loop-row-test.true)
