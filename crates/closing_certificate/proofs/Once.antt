@@ -3,7 +3,7 @@ use Rattle.std.proofs.Common.{◌≡◌, ◌≢◌, inl, inr, ℕ, suc, ◌+◌,
 use Rattle.std.specs.Prelude.{Contains, AllPairs, nat_eq, IsSorted}
 use Rattle.std.specs.List.{sum_by}
 use Rattle.std.specs.List.Sorted.{IsPermutation}
-use Rattle.std.specs.Ordering.{is_lt, ordering_then, ordering_reverse}
+use Rattle.std.specs.Ordering.{is_lt, ordering_reverse}
 use Rattle.std.specs.declared.cmp.Ordering.TheVariants.{Less, Equal, Greater}
 use Rattle.std.specs.Cmp.Lexicographic.{pointwise, bytes_decides, nat_list_cmp_total}
 use Rattle.std.proofs.lemmas.Bool.{cases_Bool, true≢false}
@@ -15,11 +15,6 @@ use Rattle.plain_list.proofs.Related.{AllPairs-head, AllPairs-tail}
 use Rattle.certificate.proofs.Sorted.{equal_is}
 use Rattle.ground_step.proofs.Names.{differs}
 use Rattle.closing_certificate.proofs.Lists.{both}
-
-pub then_first : (a b : Ordering) → is_lt (ordering_then a b) ≡ false → is_lt a ≡ false
-then_first Less b below = below
-then_first Equal b below = refl
-then_first Greater b below = refl
 
 not_below : (o : Ordering) (x y : List ℕ) → compare_texts x y ≡ o → is_lt (compare_texts y x) ≡ false → x ≢ y → compare_texts x y ≡ Less
 not_below Less x y e below apart = e
