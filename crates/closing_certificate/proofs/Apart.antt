@@ -9,7 +9,7 @@ use Rattle.std.specs.Cmp.Lexicographic.{slice_cmp, nat_list_cmp_total}
 use Rattle.std.proofs.Math.ListN.{get_or-eq_default}
 use Rattle.std.proofs.Math.Nat.{div-le_self}
 use Rattle.std.proofs.lemmas.Bool.{cases_Bool, cases_lt, cases_eq, true≢false, le-ltb, eq-eqb}
-use Rattle.std.proofs.lemmas.Nat.{shr-shr}
+use Rattle.std.proofs.lemmas.Nat.{shr-shr, xor_lt}
 use Rattle.std.proofs.lemmas.Nat.Bits.{bit_at-zero, bit_at-lt, bit_at_xor, bit_at_above, bit_at-trailing_zeros, same_from_bits, shr_and_one}
 use Rattle.std.proofs.lemmas.List.Elements.{filter-append}
 use Rattle.plain_list.specs.Texts.{compare_texts}
@@ -142,7 +142,7 @@ same_words s t n long long' agree =
         ∙ filter_alike (has_bit s) (has_bit t) 0 (64 * length s + 64 * length t) (λ q _ _. each q)
         ∙ sym (widened t (64 * length s) ∙ ap (λ n. filter (has_bit t) (range_with_len 0 n)) same))
 
--- ---- the lowest bit that differs
+-- ---- the lowest bit that differs, and the order by it
 
 some_apart : (a b : ℕ) → a ≢ b → 0 < bit_xor a b
 some_apart a b apart = elim (cases_lt 0 (bit_xor a b)) [
@@ -158,23 +158,23 @@ some_apart a b apart = elim (cases_lt 0 (bit_xor a b)) [
     alike x y u v even = omega (arith, u, v, even)
 
 module _ (s t : State) (place : ℕ) (before : AgreeBelow s t place) (apart : get_or s place 0 ≢ get_or t place 0)
-    (fits : bit_xor (get_or s place 0) (get_or t place 0) < 2 ^ 64) where
+    (ours_fits : get_or s place 0 < 2 ^ 64) (theirs_fits : get_or t place 0 < 2 ^ 64) where
   abbrev a : ℕ
   a = get_or s place 0
 
   abbrev b : ℕ
   b = get_or t place 0
 
-  abbrev pub bit : ℕ
+  abbrev bit : ℕ
   bit = trailing_zeros w64 (bit_xor a b)
 
   lowest : (bit < 64) × (bit_at (bit_xor a b) bit ≡ 1) × ((i : ℕ) → i < bit → bit_at (bit_xor a b) i ≡ 0)
-  lowest = bit_at-trailing_zeros w64 (bit_xor a b) (some_apart a b apart) fits
+  lowest = bit_at-trailing_zeros w64 (bit_xor a b) (some_apart a b apart) (xor_lt 64 a b ours_fits theirs_fits)
 
-  pub bit_small : bit < 64
+  bit_small : bit < 64
   bit_small = lowest.0
 
-  pub agree_below : (q : ℕ) → q < 64 * place + bit → has_bit s q ≡ has_bit t q
+  agree_below : (q : ℕ) → q < 64 * place + bit → has_bit s q ≡ has_bit t q
   agree_below q below = elim (cases_lt (q / 64) place) [
     | inl earlier ↦ ap (λ w. nat_eq (bit_at w (q % 64)) 1) (before (q / 64) earlier)
     | inr there ↦
@@ -193,17 +193,53 @@ module _ (s t : State) (place : ℕ) (before : AgreeBelow s t place) (apart : ge
   other_bit : (bit_at a bit + bit_at b bit) % 2 ≡ 1
   other_bit = sym (bit_at_xor a b bit) ∙ lowest.1
 
-  pub ours : bit_at a bit ≡ 1 → (has_bit s (64 * place + bit) ≡ true) × (has_bit t (64 * place + bit) ≡ false)
+  ours : bit_at a bit ≡ 1 → (has_bit s (64 * place + bit) ≡ true) × (has_bit t (64 * place + bit) ≡ false)
   ours on =
       let off : bit_at b bit ≡ 0 = (let x = other_bit in let y = bit_at-lt b bit in omega (arith, on, x, y)) in
       (bit_of s place bit bit_small ∙ ap (λ v. nat_eq v 1) on, bit_of t place bit bit_small ∙ ap (λ v. nat_eq v 1) off)
 
-  pub theirs : bit_at a bit ≢ 1 → (has_bit t (64 * place + bit) ≡ true) × (has_bit s (64 * place + bit) ≡ false)
+  theirs : bit_at a bit ≢ 1 → (has_bit t (64 * place + bit) ≡ true) × (has_bit s (64 * place + bit) ≡ false)
   theirs off =
       let x = other_bit in let y = bit_at-lt b bit in let z = bit_at-lt a bit in
       let none : bit_at a bit ≡ 0 = omega (arith, off, z) in
       let on : bit_at b bit ≡ 1 = omega (arith, none, x, y) in
       (bit_of t place bit bit_small ∙ ap (λ v. nat_eq v 1) on, bit_of s place bit bit_small ∙ ap (λ v. nat_eq v 1) none)
+
+  -- the order, where the words were read as u and v
+  module _ (u v : ℕ) (ours_is : u ≡ a) (theirs_is : v ≡ b) where
+    abbrev n : ℕ
+    n = trailing_zeros w64 (bit_xor u v)
+
+    same : n ≡ bit
+    same = λ j. trailing_zeros w64 (bit_xor (ours_is j) (theirs_is j))
+
+    pub shift_fits : n < 64
+    shift_fits = subst (λ k. k < 64) (sym same) bit_small
+
+    tested : bit_and (u / 2 ^ n) 1 ≡ bit_at a bit
+    tested = shr_and_one u n ∙ (λ j. bit_at (ours_is j) (same j))
+
+    pub first_less : bit_and (u / 2 ^ n) 1 ≡ 1 → HasAtomFrom t (64 * place + n) → Less ≡ compare_texts (true_atoms s) (true_atoms t)
+    first_less on more =
+        let o = ours (sym tested ∙ on) in
+        sym (goes_before s t (64 * place + bit) o.0 o.1 agree_below (subst (λ k. HasAtomFrom t (64 * place + k)) same more))
+
+    pub first_greater : bit_and (u / 2 ^ n) 1 ≡ 1 → HasNoneFrom t (64 * place + n) → Greater ≡ compare_texts (true_atoms s) (true_atoms t)
+    first_greater on none =
+        let o = ours (sym tested ∙ on) in
+        sym (goes_behind s t (64 * place + bit) o.0 o.1 agree_below (subst (λ k. HasNoneFrom t (64 * place + k)) same none))
+
+    pub second_greater : bit_and (u / 2 ^ n) 1 ≢ 1 → HasAtomFrom s (64 * place + n) → Greater ≡ compare_texts (true_atoms s) (true_atoms t)
+    second_greater off more =
+        let o = theirs (λ on. off (tested ∙ on)) in
+        sym (turned_greater s t (goes_before t s (64 * place + bit) o.0 o.1 (λ k below. sym (agree_below k below))
+        (subst (λ k. HasAtomFrom s (64 * place + k)) same more)))
+
+    pub second_less : bit_and (u / 2 ^ n) 1 ≢ 1 → HasNoneFrom s (64 * place + n) → Less ≡ compare_texts (true_atoms s) (true_atoms t)
+    second_less off none =
+        let o = theirs (λ on. off (tested ∙ on)) in
+        sym (turned_less s t (goes_behind t s (64 * place + bit) o.0 o.1 (λ k below. sym (agree_below k below))
+        (subst (λ k. HasNoneFrom s (64 * place + k)) same none)))
 
 -- ---- bits from one on
 
@@ -262,45 +298,3 @@ none_from s place bit small none later q from = elim (cases_lt place (q / 64)) [
       | inl within ↦ later k above within
       | inr past ↦ get_or-eq_default s 0 past
     ]
-
--- ---- the order by the lowest bit that differs
-
-module _ (s t : State) (place u v : ℕ) (ours_is : u ≡ get_or s place 0) (theirs_is : v ≡ get_or t place 0)
-    (before : AgreeBelow s t place) (apart : get_or s place 0 ≢ get_or t place 0) (fits : bit_xor (get_or s place 0) (get_or t place 0) < 2 ^ 64) where
-  abbrev n : ℕ
-  n = trailing_zeros w64 (bit_xor u v)
-
-  same : n ≡ bit s t place before apart fits
-  same = λ j. trailing_zeros w64 (bit_xor (ours_is j) (theirs_is j))
-
-  pub shift_fits : n < 64
-  shift_fits = subst (λ k. k < 64) (sym same) (bit_small s t place before apart fits)
-
-  tested : bit_and (u / 2 ^ n) 1 ≡ bit_at (get_or s place 0) (bit s t place before apart fits)
-  tested = shr_and_one u n ∙ (λ j. bit_at (ours_is j) (same j))
-
-  pub first_less : bit_and (u / 2 ^ n) 1 ≡ 1 → HasAtomFrom t (64 * place + n) → Less ≡ compare_texts (true_atoms s) (true_atoms t)
-  first_less on more =
-      let o = ours s t place before apart fits (sym tested ∙ on) in
-      sym (goes_before s t (64 * place + bit s t place before apart fits) o.0 o.1 (agree_below s t place before apart fits)
-      (subst (λ k. HasAtomFrom t (64 * place + k)) same more))
-
-  pub first_greater : bit_and (u / 2 ^ n) 1 ≡ 1 → HasNoneFrom t (64 * place + n) → Greater ≡ compare_texts (true_atoms s) (true_atoms t)
-  first_greater on none =
-      let o = ours s t place before apart fits (sym tested ∙ on) in
-      sym (goes_behind s t (64 * place + bit s t place before apart fits) o.0 o.1 (agree_below s t place before apart fits)
-      (subst (λ k. HasNoneFrom t (64 * place + k)) same none))
-
-  pub second_greater : bit_and (u / 2 ^ n) 1 ≢ 1 → HasAtomFrom s (64 * place + n) → Greater ≡ compare_texts (true_atoms s) (true_atoms t)
-  second_greater off more =
-      let o = theirs s t place before apart fits (λ on. off (tested ∙ on)) in
-      sym (turned_greater s t (goes_before t s (64 * place + bit s t place before apart fits) o.0 o.1
-      (λ k below. sym (agree_below s t place before apart fits k below))
-      (subst (λ k. HasAtomFrom s (64 * place + k)) same more)))
-
-  pub second_less : bit_and (u / 2 ^ n) 1 ≢ 1 → HasNoneFrom s (64 * place + n) → Less ≡ compare_texts (true_atoms s) (true_atoms t)
-  second_less off none =
-      let o = theirs s t place before apart fits (λ on. off (tested ∙ on)) in
-      sym (turned_less s t (goes_behind t s (64 * place + bit s t place before apart fits) o.0 o.1
-      (λ k below. sym (agree_below s t place before apart fits k below))
-      (subst (λ k. HasNoneFrom s (64 * place + k)) same none)))

@@ -1,14 +1,17 @@
 -- A name that a set has is put there without a change, so that each action's name is put there once.
-use Rattle.std.proofs.Common.{◌≡◌, inl, inr, ℕ, ◌<◌, Bool, true, false, List, [], length, get_or, Some, sym, ap, subst, ◌∙◌, arith}
-use Rattle.std.specs.Prelude.{slice_set}
+use Rattle.std.proofs.Common.{◌≡◌, inl, inr, ℕ, ◌<◌, Bool, true, false, List, [], length, get_or, Some, refl, sym, ap, subst, ◌∙◌, arith}
+use Rattle.std.specs.Prelude.{slice_set, option_map}
+use Rattle.std.specs.List.{slice_get}
 use Rattle.std.specs.List.Sorted.{IsStrictlySortedBy}
 use Rattle.std.specs.BTreeSet.{insert_key}
 use Rattle.std.proofs.Math.ListN.{replicate, get_or-eq_default}
 use Rattle.std.proofs.lemmas.Bool.{cases_lt, cases_eq, true≢false}
+use Rattle.std.proofs.lemmas.Option.{slice_get_read}
 use Rattle.std.proofs.lemmas.List.{get_or-replicate, get_or-set_other, length-replicate, length-set}
 use Rattle.plain_list.specs.Texts.{compare_texts}
 use Rattle.certificate.specs.Numbering.{Among}
 use Rattle.ground_model.specs.Ground.{Ground}
+use Rattle.ground_model.specs.declared.action.GroundAction.{GroundAction}
 use Rattle.closing_certificate.specs.Kept.{name_of_code}
 use Rattle.closing_certificate.specs.Tables.{AreTaken}
 use Rattle.certificate.proofs.Sorted.{insert_sorted, insert_has, insert_keeps, insert_origin, same_table}
@@ -37,6 +40,15 @@ module _ (g : Ground) where
     sorted = tt;
     had = λ code name taken there. absurd (true≢false (sym taken ∙ none_is_taken n code));
   }
+
+  -- what is read at a code of the actions
+  pub name_at : (actions : List GroundAction) → actions ≡ g.actions → (code : ℕ) (action : GroundAction) → code < length actions
+      → action ≡ get_or actions code action → (code < length g.actions) × (name_of_code g code ≡ Some action.name)
+  name_at actions are code action within is = (
+    subst (λ (l : List GroundAction). code < length l) are within,
+    ap (λ (l : List GroundAction). option_map (λ (a : GroundAction). a.name) (slice_get l code)) (sym are)
+        ∙ ap (option_map (λ (a : GroundAction). a.name)) (slice_get_read actions (length actions) code action refl within is),
+  )
 
   module _ (taken : List Bool) (names : List (List ℕ)) (are : AreTaken g taken names) (code : ℕ) (name : List ℕ)
       (is : name_of_code g code ≡ Some name) where
