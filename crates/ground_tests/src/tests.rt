@@ -1,6 +1,7 @@
 //! Ground problems of planning texts, row by row.
 
 mod grounded;
+mod limits;
 mod refused;
 mod rows;
 

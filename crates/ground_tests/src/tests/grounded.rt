@@ -41,6 +41,35 @@ const TIRE: Row<'static> = Row {
     open: "(move-car l1 l2)",
 };
 
+/// Two independent draws of one effect, which together go in four ways.
+const TWO: Row<'static> = Row {
+    text: "(define (domain two)
+  (:predicates (a) (b))
+  (:action both
+    :effect (and (probabilistic 0.5 (a)) (probabilistic 0.5 (b)))))
+(define (problem two-1)
+  (:domain two) (:init) (:goal (and (a) (b))) (:goal-reward 10))
+",
+    atoms: "(a),(b)",
+    starts: &[(1, "")],
+    actions: &[("(both)", UNIT)],
+    open: "(both)",
+};
+
+/// Two initial states by chance, in the order in which they are drawn.
+const CHANCE_START: Row<'static> = Row {
+    text: "(define (domain coin)
+  (:predicates (done))
+  (:action flip :effect (and (decrease (reward) 1) (done))))
+(define (problem coin-1)
+  (:domain coin) (:init (probabilistic 0.3 (done))) (:goal (done)) (:goal-reward 10))
+",
+    atoms: "(done)",
+    starts: &[(3, "(done)"), (7, "")],
+    actions: &[("(flip)", UNIT)],
+    open: "(flip)",
+};
+
 /// Roads with lengths: what a step costs is a value of `:init`, and there is no unit besides.
 const HAUL: Row<'static> = Row {
     text: "(define (domain haul)
@@ -186,8 +215,10 @@ const STARTS: Row<'static> = Row {
 
 #[test]
 fn grounded(rt: HostRuntime) -> Result<(), Fail> {
-    let rows: [Row<'_>; 9] = [
+    let rows: [Row<'_>; 11] = [
         TIRE,
+        TWO,
+        CHANCE_START,
         HAUL,
         HAUL_MISSING,
         EITHER,

@@ -39,6 +39,30 @@ fn free_actions(rt: HostRuntime) -> Result<(), Fail> {
     Ok(())
 }
 
+/// A length of nothing is known only with the instance, and is refused for its action.
+#[test]
+fn free_instances(rt: HostRuntime) -> Result<(), Fail> {
+    let text = "(define (domain haul)
+  (:predicates (at ?x) (road ?x ?y))
+  (:functions (length ?x ?y) - number)
+  (:action go :parameters (?x ?y)
+    :precondition (and (at ?x) (road ?x ?y))
+    :effect (and (at ?y) (not (at ?x)) (decrease (reward) (length ?x ?y)))))
+(define (problem haul-1)
+  (:domain haul) (:objects a b c)
+  (:init (at a) (road a b) (road b c) (road a c)
+    (= (length a b) 1.5) (= (length b c) 2) (= (length a c) 0))
+  (:goal (at c)) (:goal-reward 10))
+";
+    let wanted = Stop::Refused {
+        code: TextCode::CostNotPositive,
+        file: 1,
+        line: 4,
+    };
+    assert_eq!(rt; problem_of(rt.alloc(), text).err(), Some(wanted));
+    Ok(())
+}
+
 /// Draws whose denominators have a product above the limit.
 const FINE: &str =
     "(probabilistic 0.000000001 (x0)) (probabilistic 0.000000001 (x1)) (probabilistic 0.5 (x2))";
