@@ -47,7 +47,8 @@ fn read_next(
     requires right { 0 < pass.old.view.rights }
     requires reached { IsReached pass.old.view next.now }
     ensures keeps { Keeps words.now pass.old pass.new }
-    ensures read { HasReadNext words.now.problem pass.old.view pass.new.view next.now weight result }
+    ensures read { let g = words.now.problem
+        in HasReadNext g pass.old.view pass.new.view next.now weight result }
 {
     match intern_near(words, pass, next, hints) {
         Interned::Id(id) => read_id(words, pass, weight, id),

@@ -160,7 +160,8 @@ impl Merging {
     /// no room, and is want of memory.
     fn put_scaled(self, mut draft: Draft, factor: u64) -> Result<Merging, JointRefusal>
         ensures put { IfOk result (λ m. m ≡ merging self (scaled factor draft ∷ [])) }
-        ensures refused { IfErr result (λ e. IsTooMany e (merging self (scaled factor draft ∷ []))) }
+        ensures refused { IfErr result
+            (λ e. IsTooMany e (merging self (scaled factor draft ∷ []))) }
     {
         let Some(weight) = factor.checked_mul(draft.weight) else {
             return Err(JointRefusal::Memory);
@@ -213,7 +214,8 @@ fn put_joined(
     second: &Draft,
 ) -> Result<Merging, JointRefusal>
     ensures put { IfOk result (λ m. m ≡ merging list (joined first.now second.now ∷ [])) }
-    ensures refused { IfErr result (λ e. IsTooMany e (merging list (joined first.now second.now ∷ []))) }
+    ensures refused { IfErr result
+        (λ e. IsTooMany e (merging list (joined first.now second.now ∷ []))) }
 {
     list.put(joining::joined(alloc, first, second)?)
 }
@@ -226,7 +228,8 @@ fn put_products(
     others: &[Draft],
 ) -> Result<Merging, JointRefusal>
     ensures put { IfOk result (λ m. m ≡ merging list (map (joined first.now) others.now)) }
-    ensures refused { IfErr result (λ e. IsTooMany e (merging list (map (joined first.now) others.now))) }
+    ensures refused { IfErr result
+        (λ e. IsTooMany e (merging list (map (joined first.now) others.now))) }
 {
     let mut merged = list;
     for other in others {

@@ -77,7 +77,8 @@ fn same_choice(alloc: Global, first: &Draft, second: &Draft) -> Result<bool, All
 
 /// The place of the first choice in a list that is equal to another, or the length of the list.
 pub(crate) fn place_of(alloc: Global, list: &[Draft], draft: &Draft) -> Result<usize, AllocError>
-    ensures { IfOk result (λ place. place ≡ position_or_len (λ x. same_choice x draft.now) list.now) }
+    ensures { IfOk result
+        (λ place. place ≡ position_or_len (λ x. same_choice x draft.now) list.now) }
 {
     let mut place = 0;
     while place < list.len() {

@@ -36,7 +36,8 @@ fn push_name(key: &mut Vec<u8>, name: &[u8]) -> Result<(), AllocError>
 
 /// The key of an atom under a scope.
 pub fn atom_key(alloc: Global, scope: &Scope<'_>, atom: &Atom) -> Result<Vec<u8>, AllocError>
-    ensures { IfOk result (λ key. key.items ≡ key_of (ground_atom (binding_of scope.now) atom.now)) }
+    ensures { IfOk result
+        (λ key. key.items ≡ key_of (ground_atom (binding_of scope.now) atom.now)) }
 {
     let mut key = Vec::with_capacity(alloc, ROOM)?;
     push_name(&mut key, atom.predicate.as_slice())?;

@@ -77,7 +77,8 @@ pub(crate) fn is_valued_under(
     term: &QuantifiedAtom<'_>,
     scope: &Scope<'_>,
 ) -> Result<bool, AllocError>
-    ensures { IfOk result (λ v. v ≡ is_valued_under (world facts.now) (binding_of scope.now) term.now) }
+    ensures { IfOk result
+        (λ v. v ≡ is_valued_under (world facts.now) (binding_of scope.now) term.now) }
 {
     if is_settled(term) {
         return Ok(true);

@@ -24,8 +24,9 @@ pub fn joint(
     binding: &Binding<'_>,
 ) -> Result<Choices, JointRefusal>
     requires typed { IsTyped binding.now.table.now }
-    ensures exact { Answers result (joint_or_refusal (world_of binding.now) (numbering_of binding.now)
-        effect.now (binding_of binding.now.scope.now) base_cost) }
+    ensures exact { Answers result
+        (joint_or_refusal (world_of binding.now) (numbering_of binding.now) effect.now
+        (binding_of binding.now.scope.now) base_cost) }
 {
     let den = denominator(binding.table, effect);
     if den > MOST_DENOMINATOR {

@@ -84,7 +84,8 @@ pub(crate) fn count_of(given: Option<&str>, least: u32, most: u32) -> Option<u32
 
 /// The whole number that an option gives, or the default.
 pub(crate) fn whole_or(default: u64, given: Option<&str>, least: u64, most: u64) -> Option<u64>
-    ensures { result ≡ unless_given default (whole least most) (option_map (λ s. s.now) given.entry) }
+    ensures { result
+        ≡ unless_given default (whole least most) (option_map (λ s. s.now) given.entry) }
 {
     match given {
         None => Some(default),
@@ -94,7 +95,8 @@ pub(crate) fn whole_or(default: u64, given: Option<&str>, least: u64, most: u64)
 
 /// The same of a number of 32 bits.
 pub(crate) fn count_or(default: u32, given: Option<&str>, least: u32, most: u32) -> Option<u32>
-    ensures { result ≡ unless_given default (whole least most) (option_map (λ s. s.now) given.entry) }
+    ensures { result
+        ≡ unless_given default (whole least most) (option_map (λ s. s.now) given.entry) }
 {
     match given {
         None => Some(default),
@@ -104,7 +106,8 @@ pub(crate) fn count_or(default: u32, given: Option<&str>, least: u32, most: u32)
 
 /// The amount that an option gives, or the default.
 pub(crate) fn amount_or(default: u64, given: Option<&str>, least: u64, most: u64) -> Option<u64>
-    ensures { result ≡ unless_given default (amount least most) (option_map (λ s. s.now) given.entry) }
+    ensures { result
+        ≡ unless_given default (amount least most) (option_map (λ s. s.now) given.entry) }
 {
     match given {
         None => Some(default),

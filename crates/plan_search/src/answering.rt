@@ -27,7 +27,8 @@ pub(crate) fn answer_of(
 ) -> Result<Answer, Stop>
     requires names { HasNameLists problem.now }
     requires sizes { AreSizes sizes.now }
-    requires solved { IsSolved problem.now (solver_sizes sizes.now) (solver_effort effort.now) closing }
+    requires solved { IsSolved problem.now
+        (solver_sizes sizes.now) (solver_effort effort.now) closing }
     ensures answer { IfOk result (IsAnswerLeft problem.now effort.now sizes.now closing) }
     ensures stops { IfErr result (λ stop. (stop ≡ NoMemory)
         ⊎ IsTooLong problem.now effort.now sizes.now stop) }
@@ -53,7 +54,8 @@ pub(crate) fn measured_of(
 ) -> Result<Measured, AllocError>
     requires names { HasNameLists problem.now }
     requires sizes { AreSizes sizes.now }
-    requires solved { IsSolved problem.now (solver_sizes sizes.now) (solver_effort effort.now) closing }
+    requires solved { IsSolved problem.now
+        (solver_sizes sizes.now) (solver_effort effort.now) closing }
     ensures { IfOk result (IsMeasuredOf problem.now effort.now sizes.now) }
 {
     let found = found_of(alloc, problem, effort, sizes, closing)?;

@@ -44,7 +44,8 @@ pub(crate) fn found_of(
 ) -> Result<Found, AllocError>
     requires names { HasNameLists problem.now }
     requires sizes { AreSizes sizes.now }
-    requires solved { IsSolved problem.now (solver_sizes sizes.now) (solver_effort effort.now) closing }
+    requires solved { IsSolved problem.now
+        (solver_sizes sizes.now) (solver_effort effort.now) closing }
     ensures found { IfOk result (IsFoundBy problem.now effort.now sizes.now) }
     ensures left { IfOk result (λ found. found.closing ≡ closing) }
 {

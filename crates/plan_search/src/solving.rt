@@ -31,7 +31,8 @@ fn search<R: Threads + Sync, G: Gate>(
 ) -> Result<Closing, AllocError>
     requires effort { IsEffort effort.now }
     requires sizes { AreSizes sizes.now }
-    ensures { IfOk result (IsSolved problem.now (solver_sizes sizes.now) (solver_effort effort.now)) }
+    ensures { IfOk result
+        (IsSolved problem.now (solver_sizes sizes.now) (solver_effort effort.now)) }
 {
     let effort = solver_effort(effort);
     let sizes = solver_sizes(sizes);

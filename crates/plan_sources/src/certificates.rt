@@ -16,7 +16,8 @@ pub fn certificate_of<S: Shelf>(
     name: &str,
     shelf: &mut S,
 ) -> Result<Certificate, Stop>
-    ensures ends { MayEnd (IsFault S.read_faults shelf.old shelf.new (S.held shelf.old name.now ≡ Missing))
+    ensures ends { MayEnd
+        (IsFault S.read_faults shelf.old shelf.new (S.held shelf.old name.now ≡ Missing))
         (MayGive certificate_in (S.held shelf.old name.now)) result }
     ensures calls { S.calls shelf.new ≤ S.calls shelf.old + 1 }
     ensures shelf { OnlyRead S.held S.read_faults S.write_faults shelf.old shelf.new }

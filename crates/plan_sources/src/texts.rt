@@ -43,7 +43,8 @@ impl Texts {
 
 /// The text under a name, within its limit.
 fn read_text<S: Shelf>(alloc: Global, name: &str, shelf: &mut S) -> Result<Bytes, Stop>
-    ensures ends { MayEnd (IsFault S.read_faults shelf.old shelf.new (S.held shelf.old name.now ≡ Missing))
+    ensures ends { MayEnd
+        (IsFault S.read_faults shelf.old shelf.new (S.held shelf.old name.now ≡ Missing))
         (MayGive text_within (S.held shelf.old name.now)) result }
     ensures calls { S.calls shelf.new ≤ S.calls shelf.old + 1 }
     ensures shelf { OnlyRead S.held S.read_faults S.write_faults shelf.old shelf.new }

@@ -57,7 +57,8 @@ fn add_atoms<'a>(
     atoms: &mut Vec<QuantifiedAtom<'a>>,
     effect: &'a Effect,
 ) -> Result<(), AllocError>
-    ensures { OnOk result (IsWithAtoms (world facts.now) kind effect.now atoms.old.items atoms.new.items) }
+    ensures { OnOk result
+        (IsWithAtoms (world facts.now) kind effect.now atoms.old.items atoms.new.items) }
 {
     match effect {
         Effect::Add(atom) | Effect::Delete(atom) => {

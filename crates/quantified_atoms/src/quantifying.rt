@@ -39,8 +39,8 @@ fn under<'a>(
     inner: &QuantifiedAtom<'a>,
 ) -> Result<QuantifiedAtom<'a>, AllocError>
     requires { 0 < length (bindings (world facts.now) variables.now []) }
-    ensures { IfOk result (λ q. (f : GroundAtom → Bool) (b : Binding) → passes (world facts.now) f q b
-        ≡ list_all (passes (world facts.now) f inner.now) (bindings (world facts.now) variables.now b)) }
+    ensures { IfOk result (λ q. (f : GroundAtom → Bool) (b : Binding)
+        → passes (world facts.now) f q b ≡ list_all (passes (world facts.now) f inner.now) (bindings (world facts.now) variables.now b)) }
 {
     let atom = inner.atom;
     let mut named = Vec::from_slice(alloc, inner.variables.as_slice())?;

@@ -54,7 +54,8 @@ fn add_actions(
     requires codes { codes.now ≡ (ground_process problem.now).choices state.now }
     requires fits { length next.old ≡ length state.now }
     requires room { length listing.old ≤ most }
-    ensures grows { let found = flat_map (λ k. nexts (ground_process problem.now) k state.now) codes.now
+    ensures grows { let process = ground_process problem.now
+        in let found = flat_map (λ k. nexts process k state.now) codes.now
         in OnOk result (Grows most found listing.old listing.new) }
     ensures fits { length next.new ≡ length state.now }
 {

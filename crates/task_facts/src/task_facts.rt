@@ -70,7 +70,8 @@ fn table(alloc: Global, task: &Task) -> Result<TypeTable, AllocError>
 
 /// What is known of atoms beforehand. It is refused for want of memory alone.
 fn first_facts<'a>(alloc: Global, task: &'a Task) -> Result<FirstFacts<'a>, AllocError>
-    ensures changing { IfOk result (λ f. f.changing ≡ with_names [] (changing_predicates task.now)) }
+    ensures changing { IfOk result
+        (λ f. f.changing ≡ with_names [] (changing_predicates task.now)) }
     ensures init { IfOk result (λ f. f.init.now ≡ task.now.problem.init) }
     ensures keys { IfOk result (λ f. f.keys ≡ with_names [] (flat_map fact_keys f.init.now)) }
 {

@@ -102,7 +102,8 @@ pub fn publish(words: &Words<'_>, pass: &mut Pass, bucket: u32) -> Option<u32>
 pub fn load_word(words: &Words<'_>, pass: &mut Pass, id: u32, place: u32) -> u64
     requires here { IsOf words.now pass.old }
     requires known { knows pass.old.view id × (place < words.now.layout.width) }
-    ensures seen { pass.new ≡ knowledge pass.old.table (with_state_word pass.old.view id place result) }
+    ensures seen { let view = with_state_word pass.old.view id place result
+        in pass.new ≡ knowledge pass.old.table view }
     ensures one { HasOneEach pass.new.view }
     ensures state { HasOneState pass.new.view }
 {

@@ -1,4 +1,4 @@
-//! Tasks at each limit and one beyond it.
+//! Tasks at each limit and above it.
 
 use super::problem_of;
 use ground_model::GroundProblem;

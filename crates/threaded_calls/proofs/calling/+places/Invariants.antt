@@ -1,6 +1,6 @@
 use Prim.Native.Nat.{◌+◌, ◌*◌}
 use Rattle.std.proofs.Common.{length}
-use Rattle.threaded_calls.proofs.+places.Given as goal
+use Rattle.threaded_calls.proofs.calling.+places.Given as goal
 
 abbrev pub decreases-call_each : goal.decreases-call_each
 decreases-call_each g l = 3 * length l.places.now
