@@ -15,6 +15,17 @@ use std::alloc::{AllocError, Global};
 use task_facts::TaskFacts;
 use type_table::TypeTable;
 
+/// For how many bytes the text of a name and of objects has room: for all that it has.
+fn room_for(table: &TypeTable, name: &[u8], row: &[u32]) -> usize
+    requires { All (λ o. o < length table.now.objects) row.now }
+{
+    let mut room = name.len() + 2;
+    for object in row {
+        room = room.saturating_add(1 + table.object_name(*object).len());
+    }
+    room
+}
+
 /// A name and the names of objects as a text: `(name object ..)`.
 fn text_of_row(
     alloc: Global,
@@ -26,7 +37,7 @@ fn text_of_row(
     ensures { IfOk result (λ text. text.items
         ≡ list_text (name.now ∷ map (object_at table.now) row.now)) }
 {
-    let mut text = Vec::new(alloc);
+    let mut text = Vec::with_capacity(alloc, room_for(table, name, row))?;
     text.push(b'(')?;
     text.extend_from_slice(name)?;
     for object in row {

@@ -2,6 +2,7 @@
 use Rattle.std.proofs.Common.{◌≡◌, ℕ, Bool, true, false, ◌&&◌, cond, List, [], ◌∷◌, ◌++◌, map, length, refl, sym, ap, ◌∙◌, arith}
 use Rattle.std.specs.Prelude.{flat_map}
 use Rattle.std.specs.List.{list_all}
+use Rattle.std.proofs.lemmas.Bool.{and_parts}
 use Rattle.std.proofs.lemmas.List.Folds.{list_all-append}
 use Rattle.plain_list.specs.Texts.{list_text}
 use Rattle.ppddl_model.specs.declared.tree.Action.{Action}
@@ -28,6 +29,19 @@ use Rattle.task_atoms.proofs.Gathering.{by_rows}
 all-map : {X Y : Type 0} (f : Y → Bool) (g : X → Y) (xs : List X) → list_all f (map g xs) ≡ list_all (λ x. f (g x)) xs
 all-map f g [] = refl
 all-map f g (x ∷ xs) = ap (λ b. f (g x) && b) (all-map f g xs)
+
+-- atoms that name no parameter give no texts in a row
+pub settled_row : (task : Task) (a : Action) (qs : List QuantifiedAtom) (row : List ℕ) → list_all is_settled qs ≡ true → row_texts task a qs row ≡ []
+settled_row task a [] row all = refl
+settled_row task a (q ∷ qs) row all =
+    let parts = and_parts (is_settled q) (list_all is_settled qs) all in
+    let texts = map list_text (instances_of (world task) q (binding_of_row (table_of task) a.params row)) in
+    ap (λ t. cond t [] texts ++ row_texts task a qs row) parts.0 ∙ settled_row task a qs row parts.1
+
+pub settled_rows : (task : Task) (a : Action) (qs : List QuantifiedAtom) (rows : List (List ℕ)) → list_all is_settled qs ≡ true → flat_map (row_texts task a qs) rows ≡ []
+settled_rows task a qs [] all = refl
+settled_rows task a qs (row ∷ rows) all =
+    ap (λ l. l ++ flat_map (row_texts task a qs) rows) (settled_row task a qs row all) ∙ settled_rows task a qs rows all
 
 module _ (w : World) (g : List ℕ → Bool) where
   abbrev on_atoms : GroundAtom → Bool

@@ -1,9 +1,10 @@
 //! The changing atoms of a task.
 
 ghost use Rattle.std.specs.Prelude.{◌≡◌, length, flat_map, IfOk, OnOk};
-ghost use Rattle.std.specs.List.{AllZip};
+ghost use Rattle.std.specs.List.{AllZip, list_all};
 ghost use Rattle.task_facts.specs.Facts.{table_of};
 ghost use Rattle.kept_bindings.specs.Kept.{IsRow, AreKept};
+ghost use Rattle.quantified_atoms.specs.Quantified.{is_settled};
 ghost use Rattle.atom_texts.specs.Texts.{with_texts};
 ghost use Rattle.grounding.specs.Atoms.{numbering_of};
 ghost use Rattle.task_atoms.specs.Atoms.{action_texts, row_texts};
@@ -15,7 +16,7 @@ use ground_names::Scope;
 use kept_bindings::Rows;
 use plain_list::{List, Text};
 use ppddl_model::Action;
-use quantified_atoms::{AtomKind, QuantifiedAtom, atoms_of};
+use quantified_atoms::{AtomKind, QuantifiedAtom, atoms_of, is_settled};
 use std::alloc::{AllocError, Global};
 use task_facts::TaskFacts;
 
@@ -37,6 +38,18 @@ fn add_row(
     add_under_row(alloc, facts, texts, atoms, params, row, &Scope::Empty)
 }
 
+/// Whether none of the atoms names a parameter.
+fn are_settled(atoms: &[QuantifiedAtom<'_>]) -> bool
+    ensures { result ≡ list_all is_settled atoms.now }
+{
+    for quantified in atoms {
+        if !is_settled(quantified) {
+            return false;
+        }
+    }
+    true
+}
+
 /// Puts in those of the rows.
 fn add_rows(
     alloc: Global,
@@ -50,6 +63,9 @@ fn add_rows(
     ensures { OnOk result (texts.new ≡ with_texts texts.old
         (flat_map (row_texts facts.now action.now atoms.now) kept.now.rows)) }
 {
+    if are_settled(atoms) {
+        return Ok(());
+    }
     for place in 0..kept.len() {
         add_row(alloc, facts, texts, action, atoms, kept.row(place))?;
     }

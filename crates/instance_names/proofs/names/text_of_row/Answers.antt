@@ -10,5 +10,5 @@ loop-object-init c =
     let written : c.extend_from_slice.new.self.items ≡ 40 ∷ c.args.name.now
     = c.in_ok-extend_from_slice.ensures.items
     ∙ ap (λ l. l ++ c.args.name.now) c.in_ok-push.ensures.items
-    ∙ ap (λ l. (l ++ 40 ∷ []) ++ c.args.name.now) c.new-text.ensures.items in
+    ∙ ap (λ l. (l ++ 40 ∷ []) ++ c.args.name.now) c.in_ok-text.ensures.items in
     ap (λ l. l ++ (flat_map spaced objects ++ codes ")")) written ∙ begun c.args.name.now objects

@@ -1,8 +1,15 @@
-use Rattle.std.proofs.Common.{◌<◌, ℕ, List, [], length, get_or, refl, ap, ◌∙◌, arith}
+use Rattle.std.proofs.Common.{◌<◌, ℕ, List, [], length, get_or, refl, sym, ap, ◌∙◌, arith}
 use Rattle.atom_texts.specs.Texts.{with_texts}
 use Rattle.atom_texts.proofs.Adding.{texts_more}
 use Rattle.task_atoms.specs.Atoms.{row_texts}
+use Rattle.task_atoms.proofs.Instances.{settled_rows}
 use Rattle.task_atoms.proofs.atoms.add_rows.Goals as goal
+
+pub returns-then-are_settled : goal.returns-then-are_settled
+returns-then-are_settled c =
+    ap (with_texts c.args.texts.now)
+    (sym (settled_rows c.args.facts.now c.args.action.now c.args.atoms.now c.args.kept.now.rows
+    (sym c.are_settled.ensures ∙ c.if-are_settled.true)))
 
 pub loop-place-preserved : goal.loop-place-preserved
 loop-place-preserved c =
