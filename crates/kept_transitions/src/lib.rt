@@ -6,8 +6,10 @@ mod kept_action;
 mod kept_row;
 mod kind;
 mod kinds;
+mod room;
 mod stored_action;
 
 pub use kept::Kept;
 pub use kept_action::KeptAction;
 pub use kept_row::KeptRow;
+pub use room::Room;
