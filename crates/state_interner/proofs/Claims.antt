@@ -15,8 +15,8 @@ use Rattle.state_interner.specs.declared.turn.Turn.{Turn}
 use Rattle.state_interner.specs.declared.turn.Turn.TheVariants.{Own, Other, Free}
 use Rattle.state_interner.specs.declared.interned.Interned.{Interned}
 use Rattle.state_interner.specs.declared.interned.Interned.TheVariants.{Id, Full}
-use Rattle.state_interner.specs.Interned.{HasLooked, GoesOn, IsMissing, IsFull, InternTells}
-use Rattle.state_interner.specs.Turns.{TurnTells, WritesDraft, HasOwn, IsEnd}
+use Rattle.state_interner.specs.Interned.{HasLooked, GoesOn, HasOwn, IsMissing, IsFull, InternTells}
+use Rattle.state_interner.specs.Turns.{TurnTells, WritesDraft, IsEnd}
 use Rattle.state_interner.proofs.Going.{goes_then, count_goes, spare_goes, draft_goes, count_looks, looked_since, looked_still}
 use Rattle.state_interner.proofs.Turns.{clear_later, reached_later}
 

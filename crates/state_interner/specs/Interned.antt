@@ -2,7 +2,8 @@
 --     AddsLooks v w              w has made the looks of v, and maybe more
 --     HasLooked v w look         this is one of the looks that w has made since v
 --     GoesOn b old new           a pass of the same words that has noted more. It has the same rights, and has loaded no number
---     IsIdOf v s id              the view knows the id and has it with the state; at a goal it has noted the word of goals
+--     HasOwn v s id              the view knows the id and has it with the state
+--     IsIdOf v s id              so it is, and at a goal the view has noted the word of goals
 --     IsMissing v s w            since v a bucket of the run of s was found empty behind buckets of other states, and w has no id with s
 --     IsFull v s w               nor is there a spare, and all ids were found given out
 --     InternTells v s r w        what interning s tells
@@ -33,6 +34,10 @@ pub record GoesOn (b : Board) (old new : Knowledge) : Type 0 where
   pub count : old.view.count ≤ new.view.count
   pub loads : new.view.loads ≡ old.view.loads
   pub looks : AddsLooks old.view new.view
+
+pub record HasOwn (v : View) (s : State) (id : ℕ) : Type 0 where
+  pub known : knows v id
+  pub state : IsTrue (has_state v id s)
 
 pub record IsIdOf (v : View) (s : State) (id : ℕ) : Type 0 where
   pub known : knows v id

@@ -5,7 +5,6 @@
 --     WritesDraft old new        nothing but words of the spare's state is written
 --     Differs v id s             a word of the id's state is another than that of s
 --     CompareTells s id turn v   what a comparison of the id's state with s tells
---     HasOwn v s id              the view knows the id and has it with the state
 --     TurnTells free s b turn v  what a bucket of the run of s tells; free is what it tells where the state has no id
 --     IsEnd v w                  all ids were found given out, there is no spare, and no state was learnt since v
 --     SpareTells v spare w       what taking a spare tells
@@ -15,12 +14,12 @@ use Rattle.word_view.specs.declared.notes.StateWord.{StateWord}
 use Rattle.word_view.specs.declared.notes.Written.{Written}
 use Rattle.word_view.specs.declared.notes.Look.TheVariants.{End}
 use Rattle.word_view.specs.declared.view.View.{View}
-use Rattle.word_view.specs.Views.{knows, has_word, has_state, IsOther}
+use Rattle.word_view.specs.Views.{has_word, has_state, IsOther}
 use Rattle.word_rule.specs.Told.{HasRoom}
 use Rattle.word_table.specs.Seen.{Knowledge, knowledge}
 use Rattle.state_interner.specs.declared.turn.Turn.{Turn}
 use Rattle.state_interner.specs.declared.turn.Turn.TheVariants.{Own, Other, Free}
-use Rattle.state_interner.specs.Interned.{HasLooked}
+use Rattle.state_interner.specs.Interned.{HasLooked, HasOwn}
 
 abbrev pub with_words : List StateWord → View → View
 with_words ns v = record v { words = ns ++ v.words }
@@ -46,10 +45,6 @@ abbrev pub CompareTells : State → ℕ → Turn → View → Type 0
 CompareTells s id (Own i) v = (i ≡ id) × IsTrue (has_state v id s)
 CompareTells s id Other v = Differs v id s
 CompareTells s id Free v = ⊥
-
-pub record HasOwn (v : View) (s : State) (id : ℕ) : Type 0 where
-  pub known : knows v id
-  pub state : IsTrue (has_state v id s)
 
 abbrev pub TurnTells : Type 0 → State → ℕ → Turn → View → Type 0
 TurnTells free s bucket (Own id) v = HasOwn v s id

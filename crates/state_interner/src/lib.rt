@@ -18,6 +18,7 @@ mod turn;
 
 pub use agreeing::agree;
 pub use finding::find;
+pub use goals::sink_goal;
 pub use hints::Hints;
 pub use interned::Interned;
 pub use interning::intern;

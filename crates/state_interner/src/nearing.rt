@@ -3,8 +3,7 @@
 ghost use Rattle.std.specs.Prelude.{◌≡◌, ◌<◌, length, IfSome};
 ghost use Rattle.word_view.specs.Views.{IsReached};
 ghost use Rattle.word_table.specs.Seen.{IsOf};
-ghost use Rattle.state_interner.specs.Interned.{GoesOn, InternTells};
-ghost use Rattle.state_interner.specs.Turns.{HasOwn};
+ghost use Rattle.state_interner.specs.Interned.{GoesOn, HasOwn, InternTells};
 
 use crate::filling::fill;
 use crate::goals::sink_goal;
