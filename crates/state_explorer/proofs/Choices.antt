@@ -41,6 +41,11 @@ module _ (g : Ground) where
       (filter_passes (λ k. is_open g k s) (range_with_len 0 (length g.actions)))
       (subst (λ (l : List ℕ). Contains l (slice_index_or codes i 0)) are (Contains-get_or codes i 0 within)))
 
+  -- an action that was read from the actions
+  pub read_still : (actions : List GroundAction) (k : ℕ) (a : GroundAction) → actions ≡ g.actions → a ≡ slice_index_or actions k a
+      → a ≡ slice_index_or g.actions k a
+  read_still actions k a same read = read ∙ ap (λ (xs : List GroundAction). slice_index_or xs k a) same
+
   pub action_is : IsGroundProblem g → (k : ℕ) (a : GroundAction) → k < length g.actions → a ≡ slice_index_or g.actions k a
       → IsAction (length g.atoms) a
   action_is is k a within read =

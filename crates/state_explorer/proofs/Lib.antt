@@ -1,7 +1,10 @@
 pub mod Answered
 pub mod Choices
+pub mod Costs
 pub mod Distinct
 pub mod Growth
 pub mod Insertion
 pub mod Insides
 pub mod Levels
+pub mod Putting
+pub mod Rows

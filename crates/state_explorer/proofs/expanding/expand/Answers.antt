@@ -1,13 +1,17 @@
 -- At a goal nothing follows; elsewhere what the open actions lead to.
-use Rattle.std.proofs.Common.{◌≡◌, true, false, List, sym, ap, subst, ◌∙◌, OnOk}
-use Rattle.decision_process.specs.Levels.{nexts, successors}
+use Rattle.std.proofs.Common.{◌≡◌, true, false, List, length, sym, ap, subst, ◌∙◌}
+use Rattle.decision_process.specs.Levels.{nexts}
 use Rattle.std.specs.Prelude.{flat_map}
 use Rattle.ground_model.specs.Packed.{State}
 use Rattle.ground_model.specs.Ground.{Ground}
 use Rattle.ground_model.specs.Steps.{ground_process}
+use Rattle.kept_transitions.specs.Meaning.{IsPlaceOf}
+use Rattle.state_explorer.specs.declared.keeping.Keeping.{Keeping}
 use Rattle.state_explorer.specs.Found.{Grows}
+use Rattle.state_explorer.specs.Kept.{Puts, HasActions}
 use Rattle.state_explorer.proofs.Choices.{successors_at, successors_off}
 use Rattle.state_explorer.proofs.Growth.{grows_none}
+use Rattle.state_explorer.proofs.Rows.{place_still, kept_at_end}
 use Rattle.state_explorer.proofs.expanding.expand.Goals as goal
 
 pub returns-then-is_goal-clause-grows : goal.returns-then-is_goal-clause-grows
@@ -21,11 +25,30 @@ returns-then-is_goal-clause-grows c =
 pub returns-clause-grows : goal.returns-clause-grows
 returns-clause-grows c =
     let g = c.args.index.now in
-    let off : (ground_process g).goal c.args.state.now ≡ false =
-    ap (λ (p : Ground). (ground_process p).goal c.args.state.now) (sym c.problem-problem.ensures) ∙ sym c.is_goal.ensures ∙ c.if-is_goal.false in
-    let codes : c.as_slice.result.now ≡ (ground_process g).choices c.args.state.now = c.as_slice.ensures ∙ c.fill.ensures.codes in
-    let found : flat_map (λ k. nexts (ground_process g) k c.args.state.now) c.as_slice.result.now ≡ successors (ground_process g) c.args.state.now =
-    successors_off g c.args.state.now c.as_slice.result.now codes off in
-    subst (λ (xs : List State). OnOk c.add_actions.result (Grows c.args.most xs c.args.listing.now c.add_actions.new.listing)) found
-    (subst (λ (p : Ground). OnOk c.add_actions.result (Grows c.args.most (flat_map (λ k. nexts (ground_process p) k c.args.state.now) c.as_slice.result.now)
-    c.args.listing.now c.add_actions.new.listing)) c.problem-problem.ensures c.add_actions.ensures.grows)
+    let s = c.args.state.now in
+    let m = c.add_actions.new.listing in
+    let off : (ground_process g).goal s ≡ false =
+    ap (λ (p : Ground). (ground_process p).goal s) (sym c.problem-problem.ensures) ∙ sym c.is_goal.ensures ∙ c.if-is_goal.false in
+    let codes : c.as_slice.result.now ≡ (ground_process g).choices s = c.as_slice.ensures ∙ c.fill.ensures.codes in
+    subst (λ (xs : List State). Grows c.args.most xs c.args.listing.now m) (successors_off g s c.as_slice.result.now codes off)
+    (subst (λ (p : Ground). Grows c.args.most (flat_map (λ k. nexts (ground_process p) k s) c.as_slice.result.now) c.args.listing.now m)
+    c.problem-problem.ensures c.in_ok-add_actions.ensures.grows)
+
+pub returns-clause-kept : goal.returns-clause-kept
+returns-clause-kept c =
+    let g = c.args.index.now in
+    let s = c.args.state.now in
+    let l = c.args.listing.now in
+    let m = c.add_actions.new.listing in
+    let k : Keeping = record { kept = c.args.keeping.now.kept; whole = true } in
+    let w = c.add_actions.new.keeping in
+    let off : (ground_process g).goal s ≡ false =
+    ap (λ (p : Ground). (ground_process p).goal s) (sym c.problem-problem.ensures) ∙ sym c.is_goal.ensures ∙ c.if-is_goal.false in
+    let cs = c.as_slice.result.now in
+    let codes : cs ≡ (ground_process g).choices s = c.as_slice.ensures ∙ c.fill.ensures.codes in
+    let grows = c.in_ok-add_actions.ensures.grows in
+    let still = place_still l grows.more m grows.is in
+    let puts : Puts (HasActions (IsPlaceOf m) s g cs (length cs)) k w =
+    subst (λ (p : Ground). Puts (HasActions (IsPlaceOf m) s p cs (length cs)) k w) c.problem-problem.ensures c.in_ok-add_actions.ensures.kept in
+    kept_at_end (IsPlaceOf l) (IsPlaceOf m) still g s c.args.place cs k w c.end.new.self c.action_count-first.result c.id_count-ids.result
+    (still s c.args.place c.requires.place) off codes c.requires.kept c.action_count-first.ensures c.id_count-ids.ensures puts c.end.ensures.whole c.end.ensures.cut

@@ -1,6 +1,7 @@
--- The listed states are levels as far as they are gone through.
+-- The listed states are levels as far as they are gone through, and what is kept are transitions of them.
 use Rattle.std.proofs.Common.{◌+◌, ◌-◌, ◌≤◌, length}
 use Rattle.ground_model.specs.Steps.{ground_process, ground_starts}
+use Rattle.kept_transitions.specs.Meaning.{IsPlaceOf, AreKeptStates}
 use Rattle.state_explorer.specs.Found.{IsRoomFor}
 use Rattle.state_explorer.proofs.Levels.{Exploring}
 use Rattle.state_explorer.proofs.exploring.list_levels.Given as goal
@@ -11,6 +12,7 @@ invariant-loop-next l = record {
   shallow : l.front.depth ≤ l.front.level + 1;
   gone : l.next ≤ length l.listing;
   room : IsRoomFor l.problem l.scratch;
+  kept : AreKeptStates (IsPlaceOf l.listing) l.problem l.keeping.kept;
 }
 
 abbrev pub decreases-loop-next : goal.decreases-loop-next

@@ -1,0 +1,14 @@
+//! What exploring answers.
+
+use crate::explored::Explored;
+use kept_transitions::Kept;
+
+/// The states that were listed, and the transitions that were kept while they were.
+#[derive(Drop)]
+pub struct Exploration {
+    /// The listed states.
+    pub explored: Explored,
+    /// The open actions of states that were expanded, with the places of the states to which they lead. The id
+    /// of a state is its place among the listed ones.
+    pub transitions: Kept,
+}
