@@ -1,10 +1,10 @@
 -- Readings by what is kept of a state.
-use Rattle.std.proofs.Common.{◌≡◌, ℕ, ◌+◌, ◌-◌, ◌*◌, ◌/◌, ◌<◌, ◌≤◌, ◌^◌, min, Some, List, [], ◌∷◌, ◌++◌, length, map, take, get_or, refl, sym, ap, ◌∙◌, subst, arith}
+use Rattle.std.proofs.Common.{◌≡◌, ℕ, ◌+◌, ◌-◌, ◌*◌, ◌/◌, ◌<◌, ◌≤◌, ◌^◌, min, Some, List, [], ◌∷◌, ◌++◌, length, map, take, get_or, refl, sym, ap, ◌∙◌, ⊎_elim, subst, arith}
 use Rattle.std.specs.Prelude.{Contains, Option}
 use Rattle.std.specs.Int.{div_ceil}
 use Rattle.std.specs.List.{slice_get, AllZip}
 use Rattle.std.proofs.Math.Nat.{mul-add}
-use Rattle.std.proofs.lemmas.List.{append-nil, length_push, take_more}
+use Rattle.std.proofs.lemmas.List.{length_push, take_more}
 use Rattle.std.proofs.lemmas.Option.{slice_get_read, slice_get_within, slice_get-get_or, get_or_from_slice_get}
 use Rattle.fixed_round.specs.Means.{weighted}
 use Rattle.fixed_round.specs.Words.{word_of, value_of}
@@ -37,9 +37,10 @@ use Rattle.bellman_backup.specs.Readings.{Reading, IsRead}
 use Rattle.bellman_backup.specs.Backups.{Keeps, IsStateOf}
 use Rattle.bellman_backup.specs.Choosing.{HasChosen}
 use Rattle.bellman_backup.specs.Kept.{LeadsTo, IsKeptAction, IsKeptAt, AreKept, IsKeptState, IsKeeping}
+use Rattle.bellman_backup.specs.Places.{IsPlace}
 use Rattle.bellman_backup.specs.Totals.{IsSmallStep, HasReadNext, HasRead, HasReadAction}
 use Rattle.bellman_backup.proofs.Keeping.{keeps_all, keeps_again, grows}
-use Rattle.bellman_backup.proofs.KeptRows.{id_later, kept_still, state_later}
+use Rattle.bellman_backup.proofs.KeptRows.{grown_all, id_later, kept_still, state_later}
 use Rattle.bellman_backup.proofs.Summing.{nothing_read, read_more, product_within}
 use Rattle.bellman_backup.proofs.Narrowing.{action_is}
 use Rattle.bellman_backup.proofs.Answering.{weight_within}
@@ -301,18 +302,27 @@ chosen_goes_on b k l m t row chosen chosen' tried best best' i own a sums so kee
 some_is : (q w : Knowledge) → Some q ≡ Some w → q ≡ w
 some_is q w same = cc
 
-pub row_is_recalled : (g p : Ground) (old : Option Knowledge) (w : Knowledge) (v : View) (id : ℕ) (t : Transitions) (row : KeptRow) → p ≡ g → IsKeeping p old t
-    → old ≡ Some w → IsKept row → row ≡ row_of t id → HasMore w.view v → IsKeptState g v id t row
-row_is_recalled g p old w v id t row same keeping has kept here heard =
-    let own = keeping id (subst IsKept here kept) in
-    let witness : own.0 ≡ w = some_is own.0 w (sym own.1 ∙ has) in
-    let is : IsKeptState p w.view id t row = subst (λ r. IsKeptState p w.view id t r) (sym here) (subst (λ (q : Knowledge). IsKeptState p q.view id t (row_of t id)) witness own.2) in
+place_is_keeping : (g : Ground) (old : Option Knowledge) (near own : Transitions) (id : ℕ) (t : Transitions) (row : KeptRow) → IsPlace near own id t row
+    → IsKeeping g old near → IsKeeping g old own → IsKeeping g old t
+place_is_keeping g old near own id t row place of_near of_own = ⊎_elim
+    (λ there. subst (IsKeeping g old) (sym there.1) of_near)
+    (λ here. subst (IsKeeping g old) (sym here.1) of_own)
+    place.t_is
+
+pub row_is_recalled : (g p : Ground) (old : Option Knowledge) (w : Knowledge) (v : View) (id : ℕ) (near own t : Transitions) (row : KeptRow) → p ≡ g
+    → IsKeeping p old near → IsKeeping p old own → old ≡ Some w → IsKept row → IsPlace near own id t row → HasMore w.view v → IsKeptState g v id t row
+row_is_recalled g p old w v id near own t row same of_near of_own had kept place heard =
+    let keeping = place_is_keeping p old near own id t row place of_near of_own in
+    let is_own = keeping id (subst IsKept place.row_is kept) in
+    let witness : is_own.0 ≡ w = some_is is_own.0 w (sym is_own.1 ∙ had) in
+    let is : IsKeptState p w.view id t row = subst (λ r. IsKeptState p w.view id t r) (sym place.row_is)
+    (subst (λ (q : Knowledge). IsKeptState p q.view id t (row_of t id)) witness is_own.2) in
     subst (λ (q : Ground). IsKeptState q v id t row) same
-    (state_later w.view v heard p t t row [] [] (sym (append-nil t.actions)) (sym (append-nil t.ids)) id is)
+    (state_later w.view v heard p id t t row (grown_all t) is)
 
 pub state_is_recalled : (g : Ground) (k l : View) (id : ℕ) (t : Transitions) (row : KeptRow) (is : IsKeptState g l id t row) → HasMore k l → HasOneState l
     → IsStateOf k l id is.state
 state_is_recalled g k l id t row is more one = record {
-  has = is.has;
-  one = λ s had. one id s is.state (has_state_more k l more id s had) is.has;
+  has = is.is.state;
+  one = λ s had. one id s is.state (has_state_more k l more id s had) is.is.state;
 }

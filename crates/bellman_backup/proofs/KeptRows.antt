@@ -1,43 +1,35 @@
 -- Kept transitions stay kept, once more is noted and more is kept.
-use Rattle.std.proofs.Common.{◌≡◌, ℕ, zero, suc, ◌+◌, true, Some, List, [], ◌∷◌, ◌++◌, length, get_or, slice_set, refl, sym, ap, ◌∙◌, subst, append_assoc, arith}
-use Rattle.std.specs.Prelude.{Option, replicate}
+use Rattle.std.proofs.Common.{◌≡◌, ℕ, true, false, Some, List, [], ◌∷◌, ◌++◌, length, get_or, slice_set, refl, sym, ap, ◌∙◌, subst, append_assoc, arith}
+use Rattle.std.specs.Prelude.{Bool, IsTrue, Option, None}
 use Rattle.std.specs.List.{slice_get}
 use Rattle.std.proofs.lemmas.List.{append-nil, length-append, length-set, get_or-set_same, get_or-set_other, get_or_past, get_or_push}
 use Rattle.std.proofs.lemmas.Option.{slice_get-get_or}
 use mathlib.Core.Logic.{dite}
 use native.Mathlib.Decide.{ℕ_discrete, dec_lt}
 use Rattle.ground_model.specs.declared.action.Choice.{Choice}
-use Rattle.ground_model.specs.declared.action.GroundAction.{GroundAction}
 use Rattle.ground_model.specs.Packed.{State}
-use Rattle.ground_model.specs.Choices.{next_state}
 use Rattle.ground_model.specs.Ground.{Ground}
 use Rattle.ground_model.specs.Steps.{ground_process}
 use Rattle.word_view.specs.declared.view.View.{View}
+use Rattle.word_view.specs.Views.{knows, has_state}
 use Rattle.word_view.specs.Laws.{HasMore}
 use Rattle.word_view.proofs.Seen.{more_is_later, has_state_more}
 use Rattle.word_table.specs.Seen.{Knowledge}
 use Rattle.state_interner.specs.Interned.{IsIdOf}
 use Rattle.kept_transitions.specs.declared.kept_action.KeptAction.{KeptAction}
 use Rattle.kept_transitions.specs.declared.kept_row.KeptRow.{KeptRow}
-use Rattle.kept_transitions.specs.Rows.{Transitions, IsKept, untried, never, new_kept, row_of, with_row}
-use Rattle.bellman_backup.specs.Kept.{LeadsTo, IsKeptAction, IsKeptAt, AreKept, IsKeptState, IsKeeping, HasGrown}
+use Rattle.kept_transitions.specs.Rows.{Transitions, IsKept, never, new_kept, row_of, with_row}
+use Rattle.kept_transitions.specs.Meaning.{AreKeptStates, IsPlaceOf, HasGrown}
+use Rattle.kept_transitions.proofs.Still.{new_keeps_nothing, leads_still, at_still, are_kept_still, state_still}
+use Rattle.bellman_backup.specs.Kept.{LeadsTo, IsKeptAt, AreKept, IsKeptState, KeepsStates, IsKeeping}
 
 -- ---- at first
 
-none_of : (n id : ℕ) → IsKept (get_or (replicate n untried) id never) → ⊥
-none_of zero id kept = omega arith
-none_of (suc n) zero kept = omega arith
-none_of (suc n) (suc id) kept = none_of n id kept
-
 pub new_is_keeping : (g : Ground) (witness : Option Knowledge) (n : ℕ) (t : Transitions) → t ≡ new_kept n → IsKeeping g witness t
-new_is_keeping g witness n t is id kept = absurd (none_of n id (subst (λ (u : Transitions). IsKept (row_of u id)) is kept))
+new_is_keeping g witness n t is id kept =
+    absurd (new_keeps_nothing (λ s i. ⊥) g n id (subst (λ (u : Transitions). IsKept (row_of u id)) is kept)).is
 
 -- ---- lists that grow
-
-pub slice_get_more : {X : Type 0} (xs ys : List X) (i : ℕ) (x : X) → slice_get xs i ≡ Some x → slice_get (xs ++ ys) i ≡ Some x
-slice_get_more [] ys i x here = cc
-slice_get_more (y ∷ xs) ys zero x here = here
-slice_get_more (y ∷ xs) ys (suc i) x here = slice_get_more xs ys i x here
 
 pub slice_get_last : {X : Type 0} (xs : List X) (x : X) (i : ℕ) → i ≡ length xs → slice_get (xs ++ x ∷ []) i ≡ Some x
 slice_get_last xs x i same =
@@ -68,48 +60,68 @@ module _ (v w : View) (more : HasMore v w) where
         let later = (more_is_later v w more).noted_upper id in omega arith;
   }
 
-  module _ (s : State) (ids later : List ℕ) where
-    pub leads_later : (place : ℕ) (c : Choice) → LeadsTo v s ids place c → LeadsTo w s (ids ++ later) place c
-    leads_later place c leads = (leads.0, slice_get_more ids later place leads.0 leads.1, id_later (next_state s c) leads.0 leads.2)
+  pub leads_later : (s : State) (ids later : List ℕ) (place : ℕ) (c : Choice) → LeadsTo v s ids place c → LeadsTo w s (ids ++ later) place c
+  leads_later = leads_still (IsIdOf v) (IsIdOf w) id_later
 
-    pub action_later : (a : GroundAction) (k : KeptAction) → IsKeptAction v s ids a k → IsKeptAction w s (ids ++ later) a k
-    action_later a k is = record { cost = is.cost; next = λ i c here. leads_later (k.first + i) c (is.next i c here) }
+  pub at_later : (s : State) (ids later : List ℕ) (g : Ground) (code : ℕ) (k : KeptAction) → IsKeptAt v s g ids code k → IsKeptAt w s g (ids ++ later) code k
+  at_later = at_still (IsIdOf v) (IsIdOf w) id_later
 
-    pub at_later : (g : Ground) (code : ℕ) (k : KeptAction) → IsKeptAt v s g ids code k → IsKeptAt w s g (ids ++ later) code k
-    at_later g code k is = record { code_is = is.code_is; action = is.action; here = is.here; kept = action_later is.action k is.kept }
+  pub kept_still : (s : State) (g : Ground) (t : Transitions) (row : KeptRow) → AreKept v s g t row → AreKept w s g t row
+  kept_still s g t row is = are_kept_still (IsIdOf v) (IsIdOf w) id_later g t t row (grown_all t) s is
 
-  module _ (g : Ground) (t u : Transitions) (row : KeptRow) (more_actions : List KeptAction) (more_ids : List ℕ)
-      (actions : u.actions ≡ t.actions ++ more_actions) (ids : u.ids ≡ t.ids ++ more_ids) where
-    pub are_kept_later : (s : State) → AreKept v s g t row → AreKept w s g u row
-    are_kept_later s is = record {
-      count = is.count;
-      each = λ i below. let e = is.each i below in (
-        e.0,
-        subst (λ (xs : List KeptAction). slice_get xs (row.first + i) ≡ Some e.0) (sym actions) (slice_get_more t.actions more_actions (row.first + i) e.0 e.1),
-        subst (λ (xs : List ℕ). IsKeptAt w s g xs (get_or ((ground_process g).choices s) i 0) e.0) (sym ids)
-            (at_later s t.ids more_ids g (get_or ((ground_process g).choices s) i 0) e.0 e.2),
-      );
-    }
+  pub state_later : (g : Ground) (id : ℕ) (t u : Transitions) (row : KeptRow) → HasGrown t u → IsKeptState g v id t row → IsKeptState g w id u row
+  state_later = state_still (IsIdOf v) (IsIdOf w) id_later
 
-    pub state_later : (id : ℕ) → IsKeptState g v id t row → IsKeptState g w id u row
-    state_later id is = record {
-      state = is.state;
-      has = has_state_more v w more id is.state is.has;
-      off_goal = is.off_goal;
-      actions = are_kept_later is.state is.actions;
-    }
+pub kept_is_kept_later : (g : Ground) (t : Transitions) (v w : View) → HasMore v w → KeepsStates g v t → KeepsStates g w t
+kept_is_kept_later g t v w more keeps id kept = state_later v w more g id t t (row_of t id) (grown_all t) (keeps id kept)
 
--- the same transitions later
-pub actions_later : (v w : View) → HasMore v w → (s : State) (ids : List ℕ) (a : GroundAction) (k : KeptAction) → IsKeptAction v s ids a k → IsKeptAction w s ids a k
-actions_later v w more s ids a k is = subst (λ (xs : List ℕ). IsKeptAction w s xs a k) (append-nil ids) (action_later v w more s ids [] a k is)
+pub listed_is_kept : (g : Ground) (states : List State) (t : Transitions) (v : View) → ((s : State) (id : ℕ) → IsPlaceOf states s id → IsIdOf v s id)
+    → AreKeptStates (IsPlaceOf states) g t → KeepsStates g v t
+listed_is_kept g states t v same keeps id kept = state_still (IsPlaceOf states) (IsIdOf v) same g id t t (row_of t id) (grown_all t) (keeps id kept)
 
-pub kept_still : (v w : View) → HasMore v w → (s : State) (g : Ground) (t : Transitions) (row : KeptRow) → AreKept v s g t row → AreKept w s g t row
-kept_still v w more s g t row is = are_kept_later v w more g t t row [] [] (sym (append-nil t.actions)) (sym (append-nil t.ids)) s is
+-- ---- the id of a state that is no goal
+
+not_both : (b : Bool) → b ≡ true → b ≡ false → ⊥
+not_both b on off = cc
+
+pub is_id_off_goal : (v : View) (g : Ground) (s : State) (id : ℕ) → v.problem ≡ g → (ground_process g).goal s ≡ false → knows v id → IsTrue (has_state v id s)
+    → IsIdOf v s id
+is_id_off_goal v g s id same off known has = record {
+  known = known;
+  state = has;
+  at_goal = λ on. absurd (not_both ((ground_process g).goal s) (subst (λ (p : Ground). (ground_process p).goal s ≡ true) same on) off);
+}
+
+-- ---- a later witness
+
+pub keeping_later : (g : Ground) (old : Option Knowledge) (w : Knowledge) (t : Transitions) → ((o : Knowledge) → old ≡ Some o → HasMore o.view w.view)
+    → IsKeeping g old t → IsKeeping g (Some w) t
+keeping_later g old w t stays keeping id kept =
+    let own = keeping id kept in (w, refl, state_later own.0.view w.view (stays own.0 own.1) g id t t (row_of t id) (grown_all t) own.2)
+
+no_witness : (k : Knowledge) → None ≡ Some k → ⊥
+no_witness k is = cc
+
+-- without a witness nothing was kept
+pub keeping_first : (g : Ground) (old : Option Knowledge) (w : Knowledge) (t : Transitions) → old ≡ None → IsKeeping g old t → IsKeeping g (Some w) t
+keeping_first g old w t fresh keeping = keeping_later g old w t (λ o is. absurd (no_witness o (sym fresh ∙ is))) keeping
+
+pub keeps_is_keeping : (g : Ground) (w : Knowledge) (t : Transitions) → KeepsStates g w.view t → IsKeeping g (Some w) t
+keeps_is_keeping g w t keeps id kept = (w, refl, keeps id kept)
 
 -- ---- a row more
 
 nothing_is_kept : IsKept never → ⊥
 nothing_is_kept kept = omega arith
+
+-- what a row has rests on no row
+other_rows : (g : Ground) (w : View) (j : ℕ) (u : Transitions) (id : ℕ) (new row : KeptRow) → IsKeptState g w j u row → IsKeptState g w j (with_row u id new) row
+other_rows g w j u id new row is = record {
+  state = is.state;
+  is = is.is;
+  off_goal = is.off_goal;
+  actions = record { count = is.actions.count; each = is.actions.each };
+}
 
 module _ (g : Ground) (old : Option Knowledge) (k w : Knowledge) (t u : Transitions) (id : ℕ) (row : KeptRow) (grown : HasGrown t u)
     (keeping : IsKeeping g old t) (stays : (o : Knowledge) → old ≡ Some o → HasMore o.view w.view) (heard : HasMore k.view w.view)
@@ -124,7 +136,7 @@ module _ (g : Ground) (old : Option Knowledge) (k w : Knowledge) (t u : Transiti
         w,
         refl,
         subst (λ r. IsKeptState g w.view id now r) (sym is)
-            (state_later k.view w.view heard g u now row [] [] (sym (append-nil u.actions)) (sym (append-nil u.ids)) id (new (subst IsKept is kept))),
+            (other_rows g w.view id u id row row (state_later k.view w.view heard g id u u row (grown_all u) (new (subst IsKept is kept)))),
       ))
       (λ outside.
       let long = length-set u.rows id row in
@@ -139,7 +151,7 @@ module _ (g : Ground) (old : Option Knowledge) (k w : Knowledge) (t u : Transiti
         w,
         refl,
         subst (λ r. IsKeptState g w.view j now r) (sym is)
-            (state_later old_one.0.view w.view (stays old_one.0 old_one.1) g t now (row_of t j) grown.more_actions grown.more_ids grown.actions grown.ids j old_one.2),
+            (other_rows g w.view j u id row (row_of t j) (state_later old_one.0.view w.view (stays old_one.0 old_one.1) g j t u (row_of t j) grown old_one.2)),
       )
 
   pub keeping_more : IsKeeping g (Some w) now

@@ -17,11 +17,13 @@ use Rattle.word_table.specs.Seen.{Board, Knowledge, IsOf}
 use Rattle.kept_transitions.specs.declared.kept_action.KeptAction.{KeptAction}
 use Rattle.kept_transitions.specs.declared.kept_row.KeptRow.{KeptRow}
 use Rattle.kept_transitions.specs.Rows.{Transitions, AddsId, AddsAction}
+use Rattle.kept_transitions.specs.Meaning.{cost_of_all, HasGrown}
+use Rattle.kept_transitions.proofs.Still.{slice_get_more}
 use Rattle.bellman_backup.specs.Backups.{Keeps}
-use Rattle.bellman_backup.specs.Kept.{cost_of_all, LeadsTo, IsKeptAt, AreKept, HasGrown}
+use Rattle.bellman_backup.specs.Kept.{LeadsTo, IsKeptAt, AreKept}
 use Rattle.bellman_backup.specs.Growing.{HasKeptId, HasKeptAction, HaveKeptActions}
 use Rattle.bellman_backup.proofs.Keeping.{keeps_all, keeps_again}
-use Rattle.bellman_backup.proofs.KeptRows.{slice_get_more, slice_get_last, leads_later, at_later, grown_all, grown_again}
+use Rattle.bellman_backup.proofs.KeptRows.{slice_get_last, leads_later, at_later, grown_all, grown_again}
 use Rattle.bellman_backup.proofs.Summing.{product_within}
 
 total_push : {C : Type 0} (f : C → ℕ) (cs : List C) (c : C) → total f (cs ++ c ∷ []) ≡ total f cs + f c

@@ -3,6 +3,7 @@ pub mod Candidates
 pub mod Odds
 pub mod Examples
 pub mod Kept
+pub mod Places
 pub mod Growing
 pub mod Scratches
 pub mod Backups
@@ -11,3 +12,4 @@ pub mod Choosing
 pub mod Weighing
 pub mod Leasts
 pub mod Races
+pub mod Laws

@@ -2,6 +2,7 @@
 --     ScratchView                the problem that it was made for, the last answer with its choices as they were read, and the witness:
 --                                a pass that has noted all that the kept transitions rest on, if any are kept
 --     new_scratch g              a scratch with which nothing was backed up yet
+--     with_witness x k           a scratch with this witness
 --     IsScratchOf b x            a scratch for these words: of their problem, with a witness on their table
 --     AreBuffers g codes state next
 --                                there is room for the codes of all actions, and both states have the problem's length
@@ -22,6 +23,9 @@ pub record ScratchView : Type 0 where
 
 abbrev pub new_scratch : Ground → ScratchView
 new_scratch g = record { problem = g; last = no_action GIVE_UP; witness = None }
+
+abbrev pub with_witness : ScratchView → Knowledge → ScratchView
+with_witness x k = record x { witness = Some k }
 
 pub record IsScratchOf (b : Board) (x : ScratchView) : Type 0 where
   pub problem : x.problem ≡ b.problem

@@ -6,9 +6,10 @@ ghost use Rattle.ground_model.specs.Steps.{ground_process};
 ghost use Rattle.word_view.specs.Views.{IsReached};
 ghost use Rattle.word_table.specs.Seen.{IsOf};
 ghost use Rattle.kept_transitions.specs.Rows.{IsKept};
+ghost use Rattle.kept_transitions.specs.Meaning.{HasGrown};
 ghost use Rattle.bellman_backup.specs.Backups.{Keeps};
 ghost use Rattle.bellman_backup.specs.Choosing.{IsOpenState};
-ghost use Rattle.bellman_backup.specs.Kept.{AreKept, HasGrown};
+ghost use Rattle.bellman_backup.specs.Kept.{AreKept};
 ghost use Rattle.bellman_backup.specs.Growing.{HasKeptId, HasKeptAction, HaveKeptActions};
 ghost use Rattle.bellman_backup.specs.Totals.{IsUsable};
 

@@ -5,11 +5,13 @@ ghost use Rattle.word_view.specs.Views.{knows};
 ghost use Rattle.word_view.specs.Laws.{HasMore};
 ghost use Rattle.word_table.specs.Seen.{Knowledge, IsOf};
 ghost use Rattle.kept_transitions.specs.Rows.{IsKept};
+ghost use Rattle.kept_transitions.specs.Meaning.{HasGrown};
 ghost use Rattle.bellman_backup.specs.Scratches.{IsScratchOf, AreBuffers};
 ghost use Rattle.bellman_backup.specs.Backups.{Keeps};
-ghost use Rattle.bellman_backup.specs.Kept.{IsKeptState, HasGrown};
+ghost use Rattle.bellman_backup.specs.Kept.{IsKeptState};
 
 use crate::expanding::expand;
+use crate::places::place_of;
 use crate::scratch::Scratch;
 use crate::states::read_state;
 use ground_model::State;
@@ -73,7 +75,7 @@ fn with_news(words: &Words<'_>, pass: &mut Pass, witness: Option<Pass>) -> Pass
     }
 }
 
-/// Learns the transitions of an id, if it was not yet tried.
+/// Learns the transitions of an id, if it was not yet tried, and they are not shared either.
 pub(crate) fn learn(words: &Words<'_>, pass: &mut Pass, id: u32, scratch: &mut Scratch<'_>)
     requires here { IsOf words.now pass.old }
     requires known { knows pass.old.view id }
@@ -84,7 +86,8 @@ pub(crate) fn learn(words: &Words<'_>, pass: &mut Pass, id: u32, scratch: &mut S
     ensures scratch { IsScratchOf words.now scratch.new }
     ensures problem { scratch.new.problem ≡ scratch.old.problem }
 {
-    if !scratch.kept.row(id).is_untried() {
+    let place = place_of(&scratch.near, &scratch.kept, id);
+    if !place.row.is_untried() {
         return;
     }
     let row = find_row(

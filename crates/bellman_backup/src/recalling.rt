@@ -22,6 +22,7 @@ use crate::action_weights::ActionWeights;
 use crate::best::{Best, take_in};
 use crate::learning::learn;
 use crate::outcomes::read_id;
+use crate::places::place_of;
 use crate::scratch::Scratch;
 use crate::steps::Steps;
 use crate::sums::Sums;
@@ -137,8 +138,8 @@ fn weigh_learnt(
     ensures problem { scratch.new.problem ≡ scratch.old.problem }
     ensures told { WeighTells words.now pass.old pass.new id scratch.new.last result }
 {
-    let row = scratch.kept.row(id);
-    if !row.is_kept() {
+    let place = place_of(&scratch.near, &scratch.kept, id);
+    if !place.row.is_kept() {
         return weigh(words, pass, id, scratch);
     }
     let Some(mut witness) = scratch.witness.take() else {
@@ -149,8 +150,8 @@ fn weigh_learnt(
     let best = best_of_kept(
         words,
         pass,
-        row,
-        &scratch.kept,
+        place.row,
+        place.kept,
         &scratch.weights,
         &mut scratch.tried,
         &mut scratch.chosen,

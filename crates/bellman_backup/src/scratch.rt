@@ -1,10 +1,12 @@
 //! What a backup writes to.
 
-ghost use Rattle.std.specs.Prelude.{◌≡◌, ◌<◌, Some, length, IfOk};
+ghost use Rattle.std.specs.Prelude.{◌≡◌, ◌<◌, None, Some, length, IfOk};
+ghost use Rattle.std.specs.Arc.{arc_value};
 ghost use Rattle.std.specs.List.{slice_get};
 ghost use Rattle.bound_core.specs.Core.{width};
 ghost use Rattle.brtdp_trial.specs.Meaning.{IsAnswerOf};
-ghost use Rattle.bellman_backup.specs.Scratches.{new_scratch};
+ghost use Rattle.bellman_backup.specs.Kept.{KeepsStates};
+ghost use Rattle.bellman_backup.specs.Scratches.{new_scratch, with_witness};
 
 use crate::action_weights::ActionWeights;
 use crate::steps::Steps;
@@ -15,6 +17,7 @@ use open_actions::{OpenActions, OpenCodes};
 use state_interner::Hints;
 use std::alloc::{AllocError, Global};
 use std::marker::Model;
+use std::sync::Arc;
 use word_table::Pass;
 
 /// Buffers of the problem's greatest sizes, so that a backup takes no memory, the index of its actions and their
@@ -35,6 +38,7 @@ pub struct Scratch<'p> {
     pub(crate) chosen: Steps,
     pub(crate) code: u16,
     pub(crate) den: u64,
+    pub(crate) near: Option<Arc<Kept, Global>>,
     pub(crate) kept: Kept,
     pub(crate) witness: Option<Pass>,
 }
@@ -46,6 +50,7 @@ impl<'p> Model for Scratch<'p> {
     ghost use Rattle.brtdp_trial.specs.Listed.{last_in};
     ghost use Rattle.bellman_backup.specs.Scratches.{ScratchView, AreBuffers};
     ghost use Rattle.bellman_backup.specs.Kept.{IsKeeping};
+    ghost use Rattle.bellman_backup.specs.Places.{near_of};
     ghost use Rattle.bellman_backup.specs.Odds.{odds_of};
 
     ghost Value = { ScratchView };
@@ -55,7 +60,8 @@ impl<'p> Model for Scratch<'p> {
     ghost view = { λ s. record { problem = s.index; last = last_in s.code s.den s.chosen; witness = s.witness } };
 
     ghost invariant = { λ s. AreBuffers s.index s.open_codes s.state s.next
-        × IsKeeping s.index s.witness s.kept × (s.weights ≡ map odds_of (s.index).actions) };
+        × IsKeeping s.index s.witness s.kept × (s.weights ≡ map odds_of (s.index).actions)
+        × IsKeeping s.index s.witness (near_of s.near) };
 }
 
 /// A state of the problem's length.
@@ -90,9 +96,24 @@ impl<'p> Scratch<'p> {
             chosen: Steps::new(alloc)?,
             code: GIVE_UP,
             den: 1,
+            near: None,
             kept: Kept::make(alloc, ids, actions, followers)?,
             witness: None,
         })
+    }
+
+    /// A new scratch that shares the transitions of states near the starts with others: a backup of a state of
+    /// theirs learns nothing. The witness has noted all that they rest on.
+    pub fn with_near(self, near: Arc<Kept, Global>, witness: Pass) -> Self
+        requires fresh { self.witness ≡ None }
+        requires kept { KeepsStates self.problem witness.view (arc_value near) }
+        ensures { result ≡ with_witness self.entry witness }
+    {
+        Scratch {
+            near: Some(near),
+            witness: Some(witness),
+            ..self
+        }
     }
 
     /// What the last backup answered.

@@ -20,6 +20,7 @@ use crate::backing::backup;
 use crate::least::Least;
 use crate::mean::Mean;
 use crate::outcomes::read_id;
+use crate::places::place_of;
 use crate::recalling::recall;
 use crate::scratch::Scratch;
 use crate::sums::Sums;
@@ -164,8 +165,8 @@ pub fn narrow(words: &Words<'_>, pass: &mut Pass, id: u32, scratch: &mut Scratch
     ensures problem { scratch.new.problem ≡ scratch.old.problem }
     ensures narrows { Narrows words.now.problem pass.old.view pass.new.view id }
 {
-    let row = scratch.kept.row(id);
-    if !row.is_kept() {
+    let place = place_of(&scratch.near, &scratch.kept, id);
+    if !place.row.is_kept() {
         backup(words, pass, id, scratch);
         return;
     }
@@ -176,6 +177,6 @@ pub fn narrow(words: &Words<'_>, pass: &mut Pass, id: u32, scratch: &mut Scratch
     };
     recall(words, pass, &mut witness);
     scratch.witness = Some(witness);
-    let least = least_of_kept(words, pass, row, &scratch.kept, &scratch.weights, upper);
+    let least = least_of_kept(words, pass, place.row, place.kept, &scratch.weights, upper);
     narrow_from(words, pass, id, lower, upper, least);
 }

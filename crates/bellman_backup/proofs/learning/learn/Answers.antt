@@ -5,7 +5,8 @@ use Rattle.word_table.specs.Seen.{Knowledge}
 use Rattle.kept_transitions.specs.Rows.{IsKept, Transitions}
 use Rattle.bellman_backup.specs.Scratches.{ScratchView}
 use Rattle.bellman_backup.specs.Kept.{IsKeptState, IsKeeping}
-use Rattle.bellman_backup.proofs.KeptRows.{keeping_more}
+use Rattle.bellman_backup.specs.Places.{near_of}
+use Rattle.bellman_backup.proofs.KeptRows.{keeping_more, keeping_later}
 use Rattle.bellman_backup.proofs.learning.learn.Goals as goal
 
 pub invariant_of-scratch : goal.invariant_of-scratch
@@ -20,4 +21,5 @@ invariant_of-scratch c =
       subst (λ (x : Transitions). IsKeeping g (Some w) x) (sym c.set_row.ensures)
           (keeping_more g old k w t u c.args.id row c.find_row-row.ensures.grown c.scratch.invariant.1 stays c.with_news.ensures.heard new),
       c.scratch.invariant.2,
+      keeping_later g old w (near_of c.scratch.inside.near) stays c.scratch.invariant.3,
     )

@@ -1,9 +1,10 @@
 use Rattle.std.proofs.Common.{◌≡◌, Some, map, sym, ap, ◌∙◌, subst}
 use Rattle.ground_model.specs.Ground.{Ground}
-use Rattle.kept_transitions.specs.Rows.{IsKept}
+use Rattle.kept_transitions.specs.Rows.{Transitions, IsKept}
 use Rattle.bellman_backup.specs.Odds.{odds_of}
 use Rattle.bellman_backup.specs.Scratches.{ScratchView}
 use Rattle.bellman_backup.specs.Kept.{IsKeeping}
+use Rattle.bellman_backup.specs.Places.{near_of}
 use Rattle.bellman_backup.proofs.KeptReads.{row_is_recalled}
 use Rattle.bellman_backup.proofs.Keeping.{keeps_lower_load}
 use Rattle.bellman_backup.proofs.Leasts.{can_narrow, narrow_keeps, narrow_narrows}
@@ -17,11 +18,12 @@ load_upper-upper-requires-clause-known c =
 pub least_of_kept-least-requires-clause-kept : goal.least_of_kept-least-requires-clause-kept
 least_of_kept-least-requires-clause-kept c =
     let b = c.args.words.now in let g = b.problem in let k = c.args.pass.now in let k0 = c.load_upper-upper.new.pass in let k1 = c.recall.new.pass in
-    let p = c.scratch.inside.index in let old = c.scratch.inside.witness in let t = c.scratch.inside.kept in let row = c.row-row.result in
+    let p = c.scratch.inside.index in let old = c.scratch.inside.witness in let t = c.place_of-place.result.kept.now in let row = c.place_of-place.result.row in
     let same : p ≡ g = ap (λ (v : ScratchView). v.problem) c.scratch.view_is ∙ c.requires.scratch.problem in
     let had : old ≡ Some c.in-Some.witness = sym c.take.ensures.value ∙ c.in-Some.is in
     let kept : IsKept row = c.is_kept.ensures.0 c.if-not-is_kept.false in
-    let is = row_is_recalled g p old c.in-Some.witness k1.view c.args.id t row same c.scratch.invariant.1 had kept c.row-row.ensures c.recall.ensures.heard in
+    let is = row_is_recalled g p old c.in-Some.witness k1.view c.args.id (near_of c.scratch.inside.near) c.scratch.inside.kept t row same
+    c.scratch.invariant.3 c.scratch.invariant.1 had kept c.place_of-place.ensures c.recall.ensures.heard in
     (is.state, is.actions)
 
 pub least_of_kept-least-requires-clause-weights : goal.least_of_kept-least-requires-clause-weights
@@ -32,29 +34,36 @@ least_of_kept-least-requires-clause-weights c =
 pub narrow_from-requires-clause-can : goal.narrow_from-requires-clause-can
 narrow_from-requires-clause-can c =
     let b = c.args.words.now in let g = b.problem in let k = c.args.pass.now in let k0 = c.load_upper-upper.new.pass in let k1 = c.recall.new.pass in
-    let p = c.scratch.inside.index in let old = c.scratch.inside.witness in let t = c.scratch.inside.kept in let row = c.row-row.result in
+    let p = c.scratch.inside.index in let old = c.scratch.inside.witness in let t = c.place_of-place.result.kept.now in let row = c.place_of-place.result.row in
     let same : p ≡ g = ap (λ (v : ScratchView). v.problem) c.scratch.view_is ∙ c.requires.scratch.problem in
     let had : old ≡ Some c.in-Some.witness = sym c.take.ensures.value ∙ c.in-Some.is in
     let kept : IsKept row = c.is_kept.ensures.0 c.if-not-is_kept.false in
-    let is = row_is_recalled g p old c.in-Some.witness k1.view c.args.id t row same c.scratch.invariant.1 had kept c.row-row.ensures c.recall.ensures.heard in
+    let is = row_is_recalled g p old c.in-Some.witness k1.view c.args.id (near_of c.scratch.inside.near) c.scratch.inside.kept t row same
+    c.scratch.invariant.3 c.scratch.invariant.1 had kept c.place_of-place.ensures c.recall.ensures.heard in
     can_narrow b k c.load_lower-lower.new.pass k0 k1 c.least_of_kept-least.new.pass c.args.id c.load_lower-lower.result c.load_upper-upper.result t row c.least_of_kept-least.result
     c.requires.here c.requires.known c.load_lower-lower.ensures.seen c.load_upper-upper.ensures.seen c.recall.ensures.keeps c.recall.ensures.loads c.recall.ensures.state is
     c.least_of_kept-least.ensures.problem c.least_of_kept-least.ensures.keeps c.least_of_kept-least.ensures.least
 
 pub invariant_of-scratch : goal.invariant_of-scratch
 invariant_of-scratch c =
-    let p = c.scratch.inside.index in let old = c.scratch.inside.witness in let t = c.scratch.inside.kept in
+    let p = c.scratch.inside.index in let old = c.scratch.inside.witness in
     let had : old ≡ Some c.recall.new.witness = sym c.take.ensures.value ∙ c.in-Some.is ∙ ap Some (sym c.recall.ensures.witness) in
-    (c.scratch.invariant.0, subst (λ o. IsKeeping p o t) had c.scratch.invariant.1, c.scratch.invariant.2)
+    let still : (t : Transitions) → IsKeeping p old t → IsKeeping p (Some c.recall.new.witness) t = λ t keeping. subst (λ o. IsKeeping p o t) had keeping in (
+      c.scratch.invariant.0,
+      still c.scratch.inside.kept c.scratch.invariant.1,
+      c.scratch.invariant.2,
+      still (near_of c.scratch.inside.near) c.scratch.invariant.3,
+    )
 
 pub returns-clause-keeps : goal.returns-clause-keeps
 returns-clause-keeps c =
     let b = c.args.words.now in let g = b.problem in let k = c.args.pass.now in let k0 = c.load_upper-upper.new.pass in let k1 = c.recall.new.pass in
-    let p = c.scratch.inside.index in let old = c.scratch.inside.witness in let t = c.scratch.inside.kept in let row = c.row-row.result in
+    let p = c.scratch.inside.index in let old = c.scratch.inside.witness in let t = c.place_of-place.result.kept.now in let row = c.place_of-place.result.row in
     let same : p ≡ g = ap (λ (v : ScratchView). v.problem) c.scratch.view_is ∙ c.requires.scratch.problem in
     let had : old ≡ Some c.in-Some.witness = sym c.take.ensures.value ∙ c.in-Some.is in
     let kept : IsKept row = c.is_kept.ensures.0 c.if-not-is_kept.false in
-    let is = row_is_recalled g p old c.in-Some.witness k1.view c.args.id t row same c.scratch.invariant.1 had kept c.row-row.ensures c.recall.ensures.heard in
+    let is = row_is_recalled g p old c.in-Some.witness k1.view c.args.id (near_of c.scratch.inside.near) c.scratch.inside.kept t row same
+    c.scratch.invariant.3 c.scratch.invariant.1 had kept c.place_of-place.ensures c.recall.ensures.heard in
     narrow_keeps b k c.load_lower-lower.new.pass k0 k1 c.least_of_kept-least.new.pass c.args.id c.load_lower-lower.result c.load_upper-upper.result t row c.least_of_kept-least.result
     c.requires.here c.requires.known c.load_lower-lower.ensures.seen c.load_upper-upper.ensures.seen c.recall.ensures.keeps c.recall.ensures.loads c.recall.ensures.state is
     c.least_of_kept-least.ensures.problem c.least_of_kept-least.ensures.keeps c.least_of_kept-least.ensures.least
@@ -63,11 +72,12 @@ returns-clause-keeps c =
 pub returns-clause-narrows : goal.returns-clause-narrows
 returns-clause-narrows c =
     let b = c.args.words.now in let g = b.problem in let k = c.args.pass.now in let k0 = c.load_upper-upper.new.pass in let k1 = c.recall.new.pass in
-    let p = c.scratch.inside.index in let old = c.scratch.inside.witness in let t = c.scratch.inside.kept in let row = c.row-row.result in
+    let p = c.scratch.inside.index in let old = c.scratch.inside.witness in let t = c.place_of-place.result.kept.now in let row = c.place_of-place.result.row in
     let same : p ≡ g = ap (λ (v : ScratchView). v.problem) c.scratch.view_is ∙ c.requires.scratch.problem in
     let had : old ≡ Some c.in-Some.witness = sym c.take.ensures.value ∙ c.in-Some.is in
     let kept : IsKept row = c.is_kept.ensures.0 c.if-not-is_kept.false in
-    let is = row_is_recalled g p old c.in-Some.witness k1.view c.args.id t row same c.scratch.invariant.1 had kept c.row-row.ensures c.recall.ensures.heard in
+    let is = row_is_recalled g p old c.in-Some.witness k1.view c.args.id (near_of c.scratch.inside.near) c.scratch.inside.kept t row same
+    c.scratch.invariant.3 c.scratch.invariant.1 had kept c.place_of-place.ensures c.recall.ensures.heard in
     narrow_narrows b k c.load_lower-lower.new.pass k0 k1 c.least_of_kept-least.new.pass c.args.id c.load_lower-lower.result c.load_upper-upper.result t row c.least_of_kept-least.result
     c.requires.here c.requires.known c.load_lower-lower.ensures.seen c.load_upper-upper.ensures.seen c.recall.ensures.keeps c.recall.ensures.loads c.recall.ensures.state is
     c.least_of_kept-least.ensures.problem c.least_of_kept-least.ensures.keeps c.least_of_kept-least.ensures.least
