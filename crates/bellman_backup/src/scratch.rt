@@ -21,8 +21,9 @@ use std::sync::Arc;
 use word_table::Pass;
 
 /// Buffers of the problem's greatest sizes, so that a backup takes no memory, the index of its actions and their
-/// weights, hints where states stand, and the transitions that are kept of states that were backed up. Contracts see
-/// the problem, what the last backup answered, with the choices as they were read, and the witness.
+/// weights, hints where states stand, and the transitions that are kept of states that were backed up, beside those
+/// that it may share with other scratches. Contracts see the problem, what the last backup answered, with the choices
+/// as they were read, and the witness.
 ///
 /// What is kept rests on what was noted of the ids. The witness is a pass without rights that has noted it, so a
 /// pass that meets the witness has noted it too.
