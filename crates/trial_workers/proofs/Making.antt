@@ -1,5 +1,6 @@
 -- How a crew is made.
 use Rattle.std.proofs.Common.{◌≡◌, ℕ, zero, suc, ◌+◌, ◌-◌, ◌<◌, ◌≤◌, Some, None, List, [], ◌∷◌, ◌++◌, length, All, refl, sym, ap, ◌∙◌, subst, arith}
+use Rattle.std.specs.Arc.{arc_value}
 use Rattle.std.proofs.lemmas.List.{length-append}
 use Rattle.ground_model.specs.Packed.{State}
 use Rattle.ground_model.specs.Ground.{Ground}
@@ -7,20 +8,26 @@ use Rattle.word_view.specs.declared.view.View.{View}
 use Rattle.word_view.specs.Laws.{HasMore}
 use Rattle.word_view.specs.Steps.{without_rights}
 use Rattle.word_view.proofs.Seen.{has_state_more}
+use Rattle.word_view.proofs.Noting.{noted_is_more}
 use Rattle.word_table.specs.Seen.{Board, Knowledge, knowledge, IsOf, with_rights}
 use Rattle.brtdp_trial.specs.declared.run.Run.{Run}
-use Rattle.brtdp_trial.specs.Paths.{new_path}
-use Rattle.bellman_backup.specs.Scratches.{new_scratch}
+use Rattle.kept_transitions.specs.Rows.{Transitions}
+use Rattle.bellman_backup.specs.Scratches.{ScratchView, new_scratch, with_witness}
+use Rattle.bellman_backup.specs.Kept.{KeepsStates}
+use Rattle.bellman_backup.proofs.KeptRows.{kept_is_kept_later}
 use Rattle.trial_workers.specs.declared.worker.Worker.{Worker}
 use Rattle.trial_workers.specs.Workers.{HasListed, IsWorkerOf}
 use Rattle.trial_workers.specs.declared.desk.Desk.{Desk}
-use Rattle.trial_workers.specs.Crews.{IsCrewOf, FirstHas, IsNewCrew, IsDesk, AreDesks, new_worker}
+use Rattle.trial_workers.specs.Crews.{IsCrewOf, FirstHas, IsNewCrew, IsDesk, AreDesks, no_right, new_worker, seated, worker_of}
 
 none_is_not_run : (r : Run) → None ≡ Some r → ⊥
 none_is_not_run r same = cc
 
-none_is_not_witness : (q : Knowledge) → None ≡ Some q → ⊥
-none_is_not_witness q same = cc
+witness_is : (k q : Knowledge) → Some k ≡ Some q → k ≡ q
+witness_is k q same = cc
+
+without_right_is_of : (b : Board) (k : Knowledge) → IsOf b k → IsOf b (no_right k)
+without_right_is_of b k of = record { table = of.table; view = record { live = of.view.live; problem = of.view.problem; layout = of.view.layout } }
 
 pub new_is_worker : (b : Board) (k : Knowledge) (depth : ℕ) → IsOf b k → IsWorkerOf b depth (new_worker b.problem k depth)
 new_is_worker b k depth of = record {
@@ -30,9 +37,9 @@ new_is_worker b k depth of = record {
     room = refl;
     run = λ r is. absurd (none_is_not_run r is);
   };
-  scratch = new_scratch b.problem;
+  scratch = with_witness (new_scratch b.problem) (no_right k);
   has = refl;
-  of = record { problem = refl; witness = λ q is. absurd (none_is_not_witness q is) };
+  of = record { problem = refl; witness = λ q is. subst (IsOf b) (witness_is (no_right k) q is) (without_right_is_of b k of) };
 }
 
 more_with_right : (v : View) → HasMore v (with_rights 1 (without_rights v))
@@ -66,14 +73,14 @@ one_more P [] x all one (suc i) d below = absurd (omega arith)
 one_more P (y ∷ ys) x all one zero d below = all 0 d (omega arith)
 one_more P (y ∷ ys) x all one (suc i) d below = one_more P ys x (λ k e inside. all (suc k) e (omega arith)) one i d (omega arith)
 
-pub desks_begin : (g : Ground) (depth : ℕ) → AreDesks g depth 0 []
-desks_begin g depth = record { count = refl; each = λ k d below. absurd (omega arith) }
+pub desks_begin : (g : Ground) (t : Transitions) (depth : ℕ) → AreDesks g t depth 0 []
+desks_begin g t depth = record { count = refl; each = λ k d below. absurd (omega arith) }
 
-pub one_desk_more : (g : Ground) (depth n : ℕ) (desks : List Desk) (desk : Desk) → AreDesks g depth n desks → desk.scratch ≡ new_scratch g → desk.path ≡ new_path depth
-    → AreDesks g depth (n + 1) (desks ++ desk ∷ [])
-one_desk_more g depth n desks desk so scratch path = record {
+pub one_desk_more : (g : Ground) (t : Transitions) (depth n : ℕ) (desks : List Desk) (desk : Desk) → AreDesks g t depth n desks → IsDesk g t depth desk
+    → AreDesks g t depth (n + 1) (desks ++ desk ∷ [])
+one_desk_more g t depth n desks desk so is = record {
   count = length-append desks (desk ∷ []) ∙ (let c = so.count in omega arith);
-  each = one_more (IsDesk g depth) desks desk so.each (record { scratch = scratch; path = path });
+  each = one_more (IsDesk g t depth) desks desk so.each is;
 }
 
 last_of : {X : Type 0} (P : X → Type 0) (xs : List X) (x : X) → All P (xs ++ x ∷ []) → P x
@@ -87,21 +94,41 @@ first_of P (y ∷ xs) x all (suc k) d below = first_of P xs x (λ j e inside. al
 
 -- ---- so many workers have desks and passes
 
-pub record Seating (b : Board) (k : Knowledge) (n depth : ℕ) (i : ℕ) (desks : List Desk) (ws : List Worker) (k' : Knowledge) : Type 0 where
+pub record Seating (b : Board) (k : Knowledge) (t : Transitions) (n depth : ℕ) (i : ℕ) (desks : List Desk) (ws : List Worker) (k' : Knowledge) : Type 0 where
   pub seated : IsNewCrew b.problem k i depth ws
   pub left : length desks + i ≡ n
-  pub fit : All (IsDesk b.problem depth) desks
+  pub fit : All (IsDesk b.problem t depth) desks
   pub pass : k' ≡ knowledge k.table (with_rights (n - i) k.view)
 
-pub seating_begins : (b : Board) (k : Knowledge) (n depth : ℕ) (desks : List Desk) → k.view.rights ≡ n → AreDesks b.problem depth n desks → Seating b k n depth 0 desks [] k
-seating_begins b k n depth desks rights are = record {
+pub seating_begins : (b : Board) (k : Knowledge) (t : Transitions) (n depth : ℕ) (desks : List Desk) → k.view.rights ≡ n → AreDesks b.problem t depth n desks
+    → Seating b k t n depth 0 desks [] k
+seating_begins b k t n depth desks rights are = record {
   seated = record { count = refl; each = λ j d below. absurd (omega arith) };
   left = (let c = are.count in omega arith);
   fit = are.each;
-  pass = (λ t. knowledge k.table (with_rights ((let e : k.view.rights ≡ n - 0 = (let r = rights in omega arith) in e) t) k.view));
+  pass = (λ j. knowledge k.table (with_rights ((let e : k.view.rights ≡ n - 0 = (let r = rights in omega arith) in e) j) k.view));
 }
 
-module _ (b : Board) (k : Knowledge) (n depth i : ℕ) (desks : List Desk) (ws : List Worker) (pass : Knowledge) (below : i < n) (so : Seating b k n depth i desks ws pass) where
+more_with_rights : (v : View) (n : ℕ) → HasMore v (with_rights n v)
+more_with_rights v n = record {
+  problem = refl;
+  layout = refl;
+  known = λ id there. there;
+  held = λ m there. there;
+  words = λ id place x there. there;
+  lower = λ m there. there;
+  upper = λ m there. there;
+}
+
+-- what is kept near the starts rests on what a pass has noted, also behind a split
+pub keeps_with_rights : (g : Ground) (t : Transitions) (v : View) (n : ℕ) → KeepsStates g v t → KeepsStates g (with_rights n v) t
+keeps_with_rights g t v n keeps = kept_is_kept_later g t v (with_rights n v) (more_with_rights v n) keeps
+
+pub keeps_without_rights : (g : Ground) (t : Transitions) (v : View) → KeepsStates g v t → KeepsStates g (without_rights v) t
+keeps_without_rights g t v keeps = kept_is_kept_later g t v (without_rights v) (noted_is_more v).rights keeps
+
+module _ (b : Board) (k : Knowledge) (t : Transitions) (n depth i : ℕ) (desks : List Desk) (ws : List Worker) (pass : Knowledge) (below : i < n)
+    (so : Seating b k t n depth i desks ws pass) where
   pub pass_is_of : IsOf b k → IsOf b pass
   pass_is_of of = subst (IsOf b) (sym so.pass) (record { table = of.table; view = record { live = of.view.live; problem = of.view.problem; layout = of.view.layout } })
 
@@ -111,27 +138,29 @@ module _ (b : Board) (k : Knowledge) (n depth i : ℕ) (desks : List Desk) (ws :
   pub pass_is_free : k.view.spare ≡ None → pass.view.spare ≡ None
   pass_is_free free = subst (λ (l : Knowledge). l.view.spare ≡ None) (sym so.pass) free
 
-  pub one_seated : (rest : List Desk) (desk : Desk) (w : Worker) (left : Knowledge) → desks ≡ rest ++ desk ∷ []
-      → w ≡ record { pass = knowledge pass.table (with_rights 1 (without_rights pass.view)); scratch = Some desk.scratch; path = desk.path; first_id = 0; past_id = 0; first_trial = 0; past_trial = 0 }
-      → left ≡ knowledge pass.table (with_rights (pass.view.rights - 1) pass.view) → Seating b k n depth (i + 1) rest (ws ++ w ∷ []) left
-  one_seated rest desk w left split worker stays =
-      let one : IsDesk b.problem depth desk = last_of (IsDesk b.problem depth) rest desk (subst (All (IsDesk b.problem depth)) split so.fit) in
-      let new : w ≡ new_worker b.problem k depth =
-      worker ∙ (λ t. record {
-        pass = knowledge (so.pass t).table (with_rights 1 (without_rights (so.pass t).view));
-        scratch = Some (one.scratch t);
-        path = one.path t;
-        first_id = 0;
-        past_id = 0;
-        first_trial = 0;
-        past_trial = 0;
-      }) in record {
-        seated = record {
-          count = length-append ws (w ∷ []) ∙ (let c = so.seated.count in omega arith);
-          each = one_more (λ x. x ≡ new_worker b.problem k depth) ws w so.seated.each new;
-        };
-        left = (let e = ap (λ (l : List Desk). length l) split in let a = length-append rest (desk ∷ []) in let l = so.left in omega arith);
-        fit = first_of (IsDesk b.problem depth) rest desk (subst (All (IsDesk b.problem depth)) split so.fit);
-        pass = stays ∙ (λ t. knowledge (so.pass t).table (with_rights ((so.pass t).view.rights - 1) (so.pass t).view))
-            ∙ (λ t. knowledge k.table (with_rights ((let e : n - i - 1 ≡ n - (i + 1) = omega arith in e) t) k.view));
-      }
+  module _ (rest : List Desk) (desk : Desk) (split : desks ≡ rest ++ desk ∷ []) where
+    pub last_desk : IsDesk b.problem t depth desk
+    last_desk = last_of (IsDesk b.problem t depth) rest desk (subst (All (IsDesk b.problem t depth)) split so.fit)
+
+    pub desk_is_fresh : desk.scratch.witness ≡ None
+    desk_is_fresh = ap (λ (x : ScratchView). x.witness) last_desk.scratch
+
+    pub desk_is_kept : KeepsStates b.problem k.view t → KeepsStates desk.scratch.problem pass.view (arc_value desk.near)
+    desk_is_kept keeps =
+        subst (λ (u : Transitions). KeepsStates desk.scratch.problem pass.view u) (sym last_desk.near)
+        (subst (λ (x : ScratchView). KeepsStates x.problem pass.view t) (sym last_desk.scratch)
+        (subst (λ (l : Knowledge). KeepsStates b.problem l.view t) (sym so.pass) (keeps_with_rights b.problem t k.view (n - i) keeps)))
+
+    pub one_seated : (w : Worker) (left : Knowledge) → w ≡ seated desk pass → left ≡ knowledge pass.table (with_rights (pass.view.rights - 1) pass.view)
+        → Seating b k t n depth (i + 1) rest (ws ++ w ∷ []) left
+    one_seated w left worker stays =
+        let new : w ≡ new_worker b.problem k depth = worker ∙ (λ j. worker_of (so.pass j) (last_desk.scratch j) (last_desk.path j)) in record {
+          seated = record {
+            count = length-append ws (w ∷ []) ∙ (let c = so.seated.count in omega arith);
+            each = one_more (λ x. x ≡ new_worker b.problem k depth) ws w so.seated.each new;
+          };
+          left = (let e = ap (λ (l : List Desk). length l) split in let a = length-append rest (desk ∷ []) in let l = so.left in omega arith);
+          fit = first_of (IsDesk b.problem t depth) rest desk (subst (All (IsDesk b.problem t depth)) split so.fit);
+          pass = stays ∙ (λ j. knowledge (so.pass j).table (with_rights ((so.pass j).view.rights - 1) (so.pass j).view))
+              ∙ (λ j. knowledge k.table (with_rights ((let e : n - i - 1 ≡ n - (i + 1) = omega arith in e) j) k.view));
+        }

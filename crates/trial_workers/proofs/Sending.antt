@@ -63,7 +63,7 @@ pub index_send : (ℓ : _) → IsSend (index.the_row ℓ)
 index_send ℓ = search (sendable, crosses, list_crosses.the_send, runs_cross.the_send, masked_send, problem_sync) depth 30
 
 pub scratch_send : (ℓ : _) → IsSend (scratch.the_row ℓ)
-scratch_send ℓ = search (sendable, crosses, index_send, codes_cross.the_send, state_crosses.the_send, steps_cross.the_send, kept_crosses.the_send, pass_crosses.the_send) depth 40
+scratch_send ℓ = search (sendable, crosses, index_send, codes_cross.the_send, state_crosses.the_send, steps_cross.the_send, kept_crosses.the_send, kept_crosses.the_sync, pass_crosses.the_send) depth 40
 
 pub worker_send : (ℓ : _) → IsSend (worker.the_row ℓ)
 worker_send ℓ = search (sendable, pass_crosses.the_send, path_crosses.the_send, scratch_send) depth 30

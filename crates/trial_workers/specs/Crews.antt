@@ -2,8 +2,11 @@
 --     IsCrewOf b depth ws        1 to 16 workers over these words, for trials of so many turns
 --     FirstHas states ws         worker 0 has each state of the list, with its place as its id
 --     IsListed g explored        the states near the starts of the problem, as exploring answers them
---     IsNewCrew g k n depth ws   n workers that know and have seen what the pass k does, with one right each
---     AreDesks g depth n desks   what they need beside their passes
+--     seated desk k              the worker at a desk: its pass and its witness know and have seen what the pass k does
+--     new_worker g k depth       the worker of a new crew: nothing was backed up or tried yet
+--     IsNewCrew g k n depth ws   n workers that know and have seen what the pass k does, with one right each, and so do their witnesses
+--     AreDesks g kept depth n desks
+--                                what they need beside their passes, with these transitions near the starts
 --     IsFirstPass ws k           k is the pass of worker 0
 --     HaveStayed b os ns         each worker has noted all that it had noted, and has the same rights
 --     HaveTrials e number ws     each worker that has trials in the round of this number shows them
@@ -11,14 +14,16 @@
 --     FirstReads b os ns m       worker 0 has read the means of the starts' bounds; nothing else is changed
 use Rattle.std.specs.Prelude.{◌≡◌, ℕ, ◌+◌, ◌*◌, ◌<◌, ◌≤◌, Some, List, [], ◌∷◌, length, All}
 use Rattle.std.specs.List.{slice_get, AllZip}
+use Rattle.std.specs.Arc.{arc_value}
 use Rattle.ground_model.specs.Packed.{State}
 use Rattle.ground_model.specs.Ground.{Ground}
 use Rattle.ground_model.specs.Invariant.{IsGroundProblem}
 use Rattle.word_view.specs.declared.view.View.{View}
 use Rattle.word_view.specs.Steps.{without_rights}
 use Rattle.word_table.specs.Seen.{Board, Knowledge, knowledge, with_rights}
-use Rattle.brtdp_trial.specs.Paths.{new_path}
-use Rattle.bellman_backup.specs.Scratches.{new_scratch}
+use Rattle.brtdp_trial.specs.Paths.{PathView, new_path}
+use Rattle.kept_transitions.specs.Rows.{Transitions}
+use Rattle.bellman_backup.specs.Scratches.{ScratchView, new_scratch, with_witness}
 use Rattle.state_explorer.specs.declared.explored.Explored.{Explored}
 use Rattle.state_explorer.specs.declared.explored.TheConstants.{MOST_SWEPT}
 use Rattle.state_explorer.specs.Explored.{IsExplored}
@@ -48,28 +53,38 @@ IsListed g explored = (most : ℕ) × (most ≤ MOST_SWEPT) × IsExplored g most
 abbrev pub one_right : Knowledge → Knowledge
 one_right k = knowledge k.table (with_rights 1 (without_rights k.view))
 
-abbrev pub new_worker : Ground → Knowledge → ℕ → Worker
-new_worker g k depth = record {
+abbrev pub no_right : Knowledge → Knowledge
+no_right k = knowledge k.table (without_rights k.view)
+
+abbrev pub worker_of : Knowledge → ScratchView → PathView → Worker
+worker_of k x p = record {
   pass = one_right k;
-  scratch = Some (new_scratch g);
-  path = new_path depth;
+  scratch = Some (with_witness x (no_right k));
+  path = p;
   first_id = 0;
   past_id = 0;
   first_trial = 0;
   past_trial = 0;
 }
 
+abbrev pub seated : Desk → Knowledge → Worker
+seated desk k = worker_of k desk.scratch desk.path
+
+abbrev pub new_worker : Ground → Knowledge → ℕ → Worker
+new_worker g k depth = worker_of k (new_scratch g) (new_path depth)
+
 pub record IsNewCrew (g : Ground) (k : Knowledge) (n depth : ℕ) (ws : List Worker) : Type 0 where
   pub count : length ws ≡ n
   pub each : All (λ w. w ≡ new_worker g k depth) ws
 
-pub record IsDesk (g : Ground) (depth : ℕ) (desk : Desk) : Type 0 where
+pub record IsDesk (g : Ground) (kept : Transitions) (depth : ℕ) (desk : Desk) : Type 0 where
   pub scratch : desk.scratch ≡ new_scratch g
+  pub near : arc_value desk.near ≡ kept
   pub path : desk.path ≡ new_path depth
 
-pub record AreDesks (g : Ground) (depth n : ℕ) (desks : List Desk) : Type 0 where
+pub record AreDesks (g : Ground) (kept : Transitions) (depth n : ℕ) (desks : List Desk) : Type 0 where
   pub count : length desks ≡ n
-  pub each : All (IsDesk g depth) desks
+  pub each : All (IsDesk g kept depth) desks
 
 abbrev pub IsFirstPass : List Worker → Knowledge → Type 0
 IsFirstPass ws k = (w : Worker) → slice_get ws 0 ≡ Some w → k ≡ w.pass
