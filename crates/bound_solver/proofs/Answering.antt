@@ -1,5 +1,5 @@
 -- From the rounds to the answer.
-use Rattle.std.proofs.Common.{◌≡◌, ◌⊎◌, ⊎_elim, ℕ, ◌+◌, ◌≤◌, Some, List, [], ◌∷◌, take, refl, sym, subst, inl, inr, arith}
+use Rattle.std.proofs.Common.{◌≡◌, ⊎_elim, ℕ, ◌+◌, ◌≤◌, Some, List, [], ◌∷◌, take, refl, sym, subst, inl, inr, arith}
 use Rattle.std.specs.List.{slice_get}
 use Rattle.weighted.proofs.Totals.{total-weighted_le}
 use Rattle.decision_process.specs.Process.{Start, at_starts}
@@ -22,7 +22,6 @@ use Rattle.state_explorer.specs.Explored.{IsExplored}
 use Rattle.start_means.specs.Means.{seen_value, lower_mean, upper_mean}
 use Rattle.trial_workers.specs.declared.effort.Effort.{Effort}
 use Rattle.trial_workers.specs.declared.effort.Solved.{Solved}
-use Rattle.trial_workers.specs.declared.worker.Worker.{Worker}
 use Rattle.trial_workers.proofs.Counting.{taken_at, starts_first}
 use Rattle.closing_bounds.specs.Closing.{closing_rows, HasStartsFirst, HasRowOf}
 use Rattle.closing_bounds.specs.Ends.{closing_low, closing_high}

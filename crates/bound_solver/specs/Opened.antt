@@ -2,11 +2,13 @@
 --     AreSizes sizes             1 to 16 workers; all starts may be swept, and the table has room for more states than are swept
 --     IsOpened g sizes o         a table of the problem with an id for each state and each worker, and as many claim rights as
 --                                workers; a pass over it that has all rights, no spare, and the states near the starts, each with
---                                its place as its id
+--                                its place as its id; transitions of such states, which rest on what the pass has noted
 use Rattle.std.specs.Prelude.{◌≡◌, ◌+◌, ◌<◌, ◌≤◌, None}
+use Rattle.std.specs.Arc.{arc_value}
 use Rattle.ground_model.specs.declared.limits.TheConstants.{MOST_STARTS}
 use Rattle.ground_model.specs.Ground.{Ground}
 use Rattle.word_table.specs.Seen.{IsOf}
+use Rattle.bellman_backup.specs.Kept.{KeepsStates}
 use Rattle.state_explorer.specs.Explored.{IsExplored}
 use Rattle.trial_workers.specs.declared.crew.TheConstants.{MOST_WORKERS}
 use Rattle.trial_workers.specs.Workers.{HasListed}
@@ -28,3 +30,4 @@ pub record IsOpened (g : Ground) (sizes : Sizes) (o : Opening) : Type 0 where
   pub free : o.pass.view.spare ≡ None
   pub listed : IsExplored g sizes.sweep_states o.explored
   pub has : HasListed o.explored.states o.pass.view
+  pub near : KeepsStates g o.pass.view (arc_value o.near)

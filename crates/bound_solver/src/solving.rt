@@ -35,11 +35,13 @@ pub fn solve<R: Threads + Sync, G: Gate>(
         words,
         pass,
         explored,
+        near,
     } = open(alloc, problem, sizes)?;
-    let mut crew = make_crew(alloc, &words, pass, sizes.workers, effort.depth)?;
+    let mut crew = make_crew(alloc, &words, pass, &near, sizes.workers, effort.depth)?;
     let solved = solve_words(rt, &words, &mut crew, &explored, effort, gate);
-    // The list takes as much memory as the states that are handed out.
+    // The list takes as much memory as the states that are handed out; the transitions end with the crew.
     drop(explored);
+    drop(near);
     let image = finish(alloc, words, crew.dismiss())?;
     Ok(Closing {
         image,

@@ -1,6 +1,14 @@
 use Rattle.bound_solver.specs.Rounds.{HasMadeRounds, HasSolved}
+use Rattle.bound_solver.proofs.Listing.{opened_keeps}
 use Rattle.bound_solver.proofs.Answering.{first_has_solved, closing_is_solved}
 use Rattle.bound_solver.proofs.solving.solve.Goals as goal
+
+pub make_crew-requires-clause-near : goal.make_crew-requires-clause-near
+make_crew-requires-clause-near g c = opened_keeps c.args.problem.now c.args.sizes.now c.in_ok-words.field-0 c.in_ok-words.ensures
+
+pub solve_words-solved-requires-clause-has : goal.solve_words-solved-requires-clause-has
+solve_words-solved-requires-clause-has g c κs within =
+    let o = c.in_ok-words.field-0 in c.in_ok-crew.ensures.has o.explored.states c.in_ok-words.ensures.has
 
 pub finish-requires : goal.finish-requires
 finish-requires g c =
