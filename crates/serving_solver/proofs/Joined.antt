@@ -1,16 +1,23 @@
 -- The server's pass, split from the first one and joined into worker 0's.
 use Rattle.std.proofs.Common.{◌≡◌, ◌-◌, List, sym, ◌∙◌, subst}
 use Rattle.ground_model.specs.Packed.{State}
+use Rattle.ground_model.specs.Ground.{Ground}
 use Rattle.word_view.specs.Laws.{HasMore}
 use Rattle.word_view.specs.Steps.{united}
 use Rattle.word_view.proofs.Noting.{united_is_more}
 use Rattle.word_table.specs.Seen.{Board, Knowledge, knowledge, IsOf, with_rights}
+use Rattle.kept_transitions.specs.Rows.{Transitions}
+use Rattle.bellman_backup.specs.Kept.{KeepsStates}
 use Rattle.trial_workers.specs.Workers.{HasListed}
 use Rattle.trial_workers.proofs.Passes.{same_rights}
 
 pub still_listed : (states : List State) (k l : Knowledge) → l ≡ knowledge k.table (with_rights (k.view.rights - 0) k.view) → HasListed states k.view
     → HasListed states l.view
 still_listed states k l is has = subst (λ (m : Knowledge). HasListed states m.view) (sym (is ∙ same_rights k)) has
+
+pub still_kept : (g : Ground) (t : Transitions) (k l : Knowledge) → l ≡ knowledge k.table (with_rights (k.view.rights - 0) k.view) → KeepsStates g k.view t
+    → KeepsStates g l.view t
+still_kept g t k l is keeps = subst (λ (m : Knowledge). KeepsStates g m.view t) (sym (is ∙ same_rights k)) keeps
 
 module _ (b : Board) (k s l : Knowledge) (here : IsOf b k) (there : IsOf b s) (is : l ≡ knowledge k.table (united k.view s.view)) where
   pub joined_is_here : IsOf b l

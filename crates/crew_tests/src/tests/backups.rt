@@ -133,6 +133,7 @@ fn check_table<R: Abort>(
         words,
         pass,
         explored: _,
+        near: _,
     } = open(alloc, problem, &sizes)?;
     let mut pass = pass;
     let mut scratch = Scratch::make(alloc, problem, 66, 64, 64)?;

@@ -48,8 +48,9 @@ pub(super) fn solve_by_crew<R: Threads + Sync, G: Gate>(
         words,
         pass,
         explored,
+        near,
     } = open(alloc, problem, sizes)?;
-    let mut crew = make_crew(alloc, &words, pass, sizes.workers, effort.depth)?;
+    let mut crew = make_crew(alloc, &words, pass, &near, sizes.workers, effort.depth)?;
     let solved = solve_words(rt, &words, &mut crew, &explored, effort, gate);
     let image = finish(alloc, words, crew.dismiss())?;
     Ok((solved, image))

@@ -1,10 +1,18 @@
 -- From the rounds and the run of the server to the answer.
 use Rattle.std.proofs.Common.{rules}
+use Rattle.std.specs.Arc.{arc_value}
+use Rattle.bound_solver.proofs.Listing.{opened_keeps}
 use Rattle.bound_solver.proofs.Answering.{first_has_solved, later_has_solved, closing_is_solved}
 use Rattle.serving_solver.specs.Served.{streams, WasServed}
-use Rattle.serving_solver.proofs.Joined.{still_listed, joined_is_here, joined_has_both}
+use Rattle.serving_solver.proofs.Joined.{still_listed, still_kept, joined_is_here, joined_has_both}
 use Rattle.serving_solver.proofs.Kept.{was_served, is_served}
 use Rattle.serving_solver.proofs.serving.serve.Goals as goal
+
+pub make_crew-requires-clause-near : goal.make_crew-requires-clause-near
+make_crew-requires-clause-near g c =
+    let o = c.in_ok-words.field-0 in
+    still_kept o.words.problem (arc_value o.near) o.pass c.split-looking.new.pass c.split-looking.ensures.old
+    (opened_keeps c.args.problem.now c.args.sizes.now o c.in_ok-words.ensures)
 
 pub solve_beside-requires-clause-has : goal.solve_beside-requires-clause-has
 solve_beside-requires-clause-has g c κs within =
