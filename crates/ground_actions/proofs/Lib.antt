@@ -6,3 +6,5 @@ pub mod Walked
 pub mod Stepping
 pub mod Charged
 pub mod Beginning
+pub mod AgreeSteps
+pub mod Repeating

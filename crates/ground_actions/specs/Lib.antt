@@ -1,3 +1,4 @@
 pub mod Answers
 pub mod Forming
 pub mod Growing
+pub mod Repeating

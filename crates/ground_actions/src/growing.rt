@@ -1,6 +1,7 @@
 //! The ground actions of a task while they are formed.
 
-ghost use Rattle.std.specs.Prelude.{◌≡◌, ◌≤◌};
+ghost use Rattle.std.specs.Prelude.{◌≡◌, ◌≤◌, ◌-◌, cond, length, slice_get, None};
+ghost use Rattle.std.specs.Option.{option_copied};
 ghost use Rattle.grounding.specs.declared.limits.TheConstants.{MOST_GROUND_SIZE};
 ghost use Rattle.ground_actions.specs.Growing.{no_actions, room_for, with_ground_action, IsAnswerOf};
 
@@ -73,6 +74,17 @@ impl Growing {
             Ok(()) => Ok(Growing { list, size: whole }),
             Err(_) => Err(GroundRefusal::Memory),
         }
+    }
+
+    /// The action that was put last, where it is asked for.
+    pub(crate) fn last_if(&self, asked: bool) -> Option<&GroundAction>
+        ensures { option_copied result
+            ≡ cond asked (slice_get self.now.list (length self.now.list - 1)) None }
+    {
+        if !asked {
+            return None;
+        }
+        self.list.last()
     }
 
     /// The actions with their size.

@@ -2,7 +2,9 @@
 #![tactic(auto)]
 
 mod actions;
+mod agreeing;
 mod answering;
+mod copying;
 mod forming;
 mod growing;
 mod instances;

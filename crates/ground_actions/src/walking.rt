@@ -9,17 +9,20 @@ ghost use Rattle.ground_actions.specs.Answers.{IsBindingOf};
 ghost use Rattle.ground_actions.specs.Forming.{IsFine};
 ghost use Rattle.ground_actions.specs.Growing.{kept_instances_of, with_instances, IsAnswerOf};
 
+use crate::agreeing::agrees_before;
 use crate::growing::Growing;
-use crate::instances::ground_action;
+use crate::instances::next_action;
 use ground_conditions::Binding;
 use ground_sizes::effect_size;
 use grounding::GroundRefusal;
 use kept_bindings::Rows;
+use named_variables::named_parameters;
 use ppddl_model::Action;
 use std::alloc::Global;
 use task_facts::TaskFacts;
 
-/// Puts the instances of an action, whose objects are those of rows, behind others.
+/// Puts the instances of an action, whose objects are those of rows, behind others. One that differs from
+/// the one before in parameters alone that the action does not name is not formed again.
 fn add_action(
     alloc: Global,
     facts: &TaskFacts<'_>,
@@ -36,10 +39,12 @@ fn add_action(
         (map (instance_of_row facts.now action.now) rows.now.rows)) }
 {
     let effect = effect_size(within.table, &action.effect);
+    let named = named_parameters(alloc, action)?;
     let mut grown = before;
     for place in 0..rows.len() {
         grown.room_for(effect)?;
-        let formed = ground_action(alloc, facts, within, base, action, rows.row(place))?;
+        let like = grown.last_if(agrees_before(named.as_slice(), rows, place));
+        let formed = next_action(alloc, facts, within, base, action, rows.row(place), like)?;
         grown = grown.put(formed, effect)?;
     }
     Ok(grown)
