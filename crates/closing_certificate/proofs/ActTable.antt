@@ -1,13 +1,15 @@
 -- The table of acts: it has the names of the actions that rows take, and no other.
 use Rattle.std.proofs.Common.{◌≡◌, inl, inr, ℕ, suc, ◌+◌, ◌<◌, ◌≤◌, true, List, [], ◌∷◌, ◌++◌, length, Option, Some, None, refl, sym, ap, subst, ◌∙◌, arith, Ordering}
-use Rattle.std.specs.Prelude.{Contains, get_or}
+use Rattle.std.specs.Prelude.{Contains, get_or, slice_set, is_some}
 use Rattle.std.specs.List.{slice_get}
 use Rattle.std.specs.BTreeSet.{insert_key}
 use Rattle.std.specs.Ordering.{match_ordering}
 use Rattle.std.specs.declared.cmp.Ordering.TheVariants.{Less, Equal, Greater}
 use Rattle.std.specs.Prelude.{option_map}
 use Rattle.std.proofs.lemmas.List.Concat.{flat_map-cons}
-use Rattle.std.proofs.lemmas.Option.{slice_get_cases, slice_get_past, slice_get-get_or}
+use Rattle.std.proofs.lemmas.Bool.{cases_eq, true≢false}
+use Rattle.std.proofs.lemmas.List.{get_or-set_same, get_or-set_other, length-set}
+use Rattle.std.proofs.lemmas.Option.{slice_get_cases, slice_get_past, slice_get_read, slice_get-get_or}
 use Rattle.fixed_round.specs.Words.{code_of}
 use Rattle.ground_model.specs.declared.action.GroundAction.{GroundAction}
 use Rattle.certificate.specs.declared.act.Act.TheVariants.{Do}
@@ -19,7 +21,7 @@ use Rattle.certificate.specs.Numbering.{Among, filled, table_of, place_of}
 use Rattle.certificate.proofs.Sorted.{table_sorted, table_has, table_origin, sorted_rises, name_among, place_is_own}
 use Rattle.closing_certificate.specs.RowsKept.{KeptRow}
 use Rattle.closing_certificate.specs.Kept.{act_name, act_names, named}
-use Rattle.closing_certificate.specs.Tables.{act_at, act_for, in_place, AreActPlaces, HasActIn, HaveActsIn}
+use Rattle.closing_certificate.specs.Tables.{act_at, act_for, in_place, AreActPlaces, IsPlaced, HasMorePlaces, HasActPlace, HaveActPlaces, HasActIn, HaveActsIn}
 
 pub among_member : (texts : List (List ℕ)) (text : List ℕ) → Contains texts text → Among texts text
 among_member [] text inside = absurd (Contains-nil text inside)
@@ -99,26 +101,71 @@ module _ (g : Ground) (rows : List KeptRow) where
 
 -- ---- the places of the actions' names, by code
 
-module _ (g : Ground) (acts : List (List ℕ)) (places : List ℕ) (are : AreActPlaces g acts places) (word : ℕ) (has : HasActIn g acts word) where
-  abbrev code : ℕ
-  code = code_of word
+placed_of : (o : Option ℕ) → is_some o ≡ true → (place : ℕ) × (o ≡ Some place)
+placed_of None on = absurd (true≢false (sym on))
+placed_of (Some place) on = (place, refl)
 
-  there_is : (a : GroundAction) → code < length g.actions → slice_get g.actions code ≡ Some a → act_at places word ≡ act_for acts (act_name g word)
-  there_is a within at =
-      let name : act_name g word ≡ Some a.name = ap (option_map (λ (x : GroundAction). x.name)) at in
-      let found : slice_get places code ≡ Some (get_or places code 0)
-      = slice_get-get_or places code 0 (let long = are.long in omega (arith, within)) in
-      ap in_place found
-      ∙ ap Do (are.placed code a.name name (has a.name name))
-      ∙ sym (ap (act_for acts) name)
+some_place : (x y : Option ℕ) → Some x ≡ Some y → x ≡ y
+some_place x y e = cc
 
-  there_is_none : length g.actions ≤ code → slice_get g.actions code ≡ None → act_at places word ≡ act_for acts (act_name g word)
-  there_is_none past at =
-      let found : slice_get places code ≡ None = slice_get_past places code (let long = are.long in omega (arith, past)) in
-      ap in_place found ∙ sym (ap (λ o. act_for acts (option_map (λ (x : GroundAction). x.name) o)) at)
+-- a place that stands there stays, and where one is put there is one
+module _ (places : List (Option ℕ)) (code place : ℕ) where
+  pub stands : (o : Option ℕ) → code < length places → o ≡ get_or places code o → is_some o ≡ true → IsPlaced places code
+  stands o within read on =
+      let there : slice_get places code ≡ Some o = slice_get_read places (length places) code o refl within read in
+      let same : get_or places code None ≡ o = some_place (get_or places code None) o (sym (slice_get-get_or places code None within) ∙ there) in
+      let placed = placed_of o on in (placed.0, same ∙ placed.1)
 
-  pub act_is : act_at places word ≡ act_for acts (act_name g word)
-  act_is = elim (slice_get_cases g.actions code).1 [
-    | inl found ↦ there_is found.0 found.1 found.2
-    | inr past ↦ there_is_none past.0 past.1
+  pub more_put : code < length places → HasMorePlaces places (slice_set places code (Some place))
+  more_put within = (
+    length-set places code (Some place),
+    λ other placed. elim (cases_eq other code) [
+      | inl same ↦ (place, ap (λ k. get_or (slice_set places code (Some place)) k None) same ∙ get_or-set_same places code (Some place) None within)
+      | inr apart ↦ (placed.0, get_or-set_other places code other (Some place) None apart ∙ placed.1)
+    ],
+  )
+
+some_row : (x y : KeptRow) → Some x ≡ Some y → x ≡ y
+some_row x y e = cc
+
+-- a row more has the place of its action
+module _ (old new : List (Option ℕ)) (rows : List KeptRow) (i : ℕ) (row : KeptRow) (there : slice_get rows i ≡ Some row) (before : HaveActPlaces old rows i)
+    (more : HasMorePlaces old new) (here : HasActPlace new row.upper) where
+  one_placed : (k : ℕ) (r : KeptRow) → k < i + 1 → slice_get rows k ≡ Some r → code_of r.upper < length new → IsPlaced new (code_of r.upper)
+  one_placed k r below at within = elim (cases_eq k i) [
+    | inl same ↦
+        let is : r ≡ row = some_row r row (sym at ∙ ap (slice_get rows) same ∙ there) in
+        subst (λ (x : KeptRow). IsPlaced new (code_of x.upper)) (sym is) (here (subst (λ (x : KeptRow). code_of x.upper < length new) is within))
+    | inr apart ↦
+        let kept = more.0 in let earlier : k < i = omega (arith, below, apart) in let had : code_of r.upper < length old = omega (arith, within, kept) in
+        more.1 (code_of r.upper) (before k r earlier at had)
   ]
+
+  pub one_more_placed : HaveActPlaces new rows (i + 1)
+  one_more_placed = one_placed
+
+module _ (g : Ground) (acts : List (List ℕ)) (places : List (Option ℕ)) (are : AreActPlaces g acts places) where
+  module _ (word : ℕ) (here : HasActPlace places word) (has : HasActIn g acts word) where
+    abbrev code : ℕ
+    code = code_of word
+
+    there_is : (a : GroundAction) → code < length g.actions → slice_get g.actions code ≡ Some a → act_at places word ≡ act_for acts (act_name g word)
+    there_is a within at =
+        let name : act_name g word ≡ Some a.name = ap (option_map (λ (x : GroundAction). x.name)) at in
+        let below : code < length places = (let long = are.long in omega (arith, within)) in
+        let placed = here below in
+        let found : slice_get places code ≡ Some (Some placed.0) = slice_get-get_or places code None below ∙ ap Some placed.1 in
+        ap in_place found
+        ∙ ap Do (are.placed code placed.0 a.name placed.1 name (has a.name name))
+        ∙ sym (ap (act_for acts) name)
+
+    there_is_none : length g.actions ≤ code → slice_get g.actions code ≡ None → act_at places word ≡ act_for acts (act_name g word)
+    there_is_none past at =
+        let found : slice_get places code ≡ None = slice_get_past places code (let long = are.long in omega (arith, past)) in
+        ap in_place found ∙ sym (ap (λ o. act_for acts (option_map (λ (x : GroundAction). x.name) o)) at)
+
+    pub act_is : act_at places word ≡ act_for acts (act_name g word)
+    act_is = elim (slice_get_cases g.actions code).1 [
+      | inl found ↦ there_is found.0 found.1 found.2
+      | inr past ↦ there_is_none past.0 past.1
+    ]

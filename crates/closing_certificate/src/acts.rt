@@ -6,6 +6,7 @@ ghost use Rattle.certificate.specs.declared.limits.TheConstants.{MOST_COUNT};
 ghost use Rattle.certificate.specs.Numbering.{Among, filled, place_of, table_of};
 ghost use Rattle.closing_certificate.specs.Kept.{act_name, act_names, named};
 ghost use Rattle.closing_certificate.specs.Tables.{act_at, AreActPlaces, AreTaken};
+ghost use Rattle.closing_certificate.specs.Tables.{HasActPlace, HasMorePlaces, HaveActPlaces};
 
 use crate::kept_row::KeptRow;
 use certificate::{Act, MOST_COUNT};
@@ -77,30 +78,50 @@ fn place_of(acts: &[Text], name: &Text) -> u32
     place as u32
 }
 
-/// Of each action, by its code, the place of its name in the table of acts, if the table has it.
+/// Puts the place of the name of the action that an upper word names at its code, unless one stands there.
+fn put_place(problem: &GroundProblem, acts: &[Text], places: &mut Vec<Option<u32>>, word: UpperWord)
+    requires rises { IsTrue (rises compare_texts acts.now) }
+    requires few { length acts.now ≤ MOST_COUNT }
+    requires places { AreActPlaces problem.now acts.now places.old.items }
+    ensures places { AreActPlaces problem.now acts.now places.new.items }
+    ensures more { HasMorePlaces places.old.items places.new.items }
+    ensures here { HasActPlace places.new.items word }
+{
+    let code = word.code() as usize;
+    let Some(action) = problem.actions().get(code) else {
+        return;
+    };
+    if places[code].is_none() {
+        places[code] = Some(place_of(acts, &action.name));
+    }
+}
+
+/// Of each action that some row takes, by its code, the place of its name in the table of acts. A name is looked up
+/// once for an action, however many rows take it.
 pub(crate) fn places_of_acts(
     alloc: Global,
     problem: &GroundProblem,
     acts: &[Text],
-) -> Result<Vec<u32>, AllocError>
+    rows: &[KeptRow<'_>],
+) -> Result<Vec<Option<u32>>, AllocError>
     requires rises { IsTrue (rises compare_texts acts.now) }
     requires few { length acts.now ≤ MOST_COUNT }
-    ensures { IfOk result (λ places. AreActPlaces problem.now acts.now places.items) }
+    ensures places { IfOk result (λ places. AreActPlaces problem.now acts.now places.items) }
+    ensures rows { IfOk result (λ places. HaveActPlaces places.items rows.now (length rows.now)) }
 {
-    let actions = problem.actions();
-    let mut places = Vec::with_capacity(alloc, actions.len())?;
-    for action in actions {
-        places.push(place_of(acts, &action.name))?;
+    let mut places = vec![in alloc; None; problem.actions().len()]?;
+    for row in rows {
+        put_place(problem, acts, &mut places, row.upper());
     }
     Ok(places)
 }
 
 /// What an upper word says to do, by the places of the actions' names in the table of acts.
-pub(crate) fn act_of(places: &[u32], word: UpperWord) -> Act
+pub(crate) fn act_of(places: &[Option<u32>], word: UpperWord) -> Act
     ensures { result ≡ act_at places.now word }
 {
     match places.get(word.code() as usize) {
-        None => Act::GiveUp,
-        Some(place) => Act::Do(*place),
+        Some(Some(place)) => Act::Do(*place),
+        _ => Act::GiveUp,
     }
 }

@@ -40,7 +40,7 @@ pub(crate) fn numbered_rows(
     ensures { IfOk result (λ numbered. numbered
         ≡ map (numbered_row problem.now places.now acts.now) rows.now) }
 {
-    let act_places = places_of_acts(alloc, problem, acts)?;
+    let act_places = places_of_acts(alloc, problem, acts, rows)?;
     let mut numbered = Rows::new(alloc);
     let mut numbers = Vec::new(alloc);
     for row in rows {
