@@ -12,6 +12,8 @@ use Rattle.ground_model.specs.Packed.{State}
 use Rattle.ground_model.specs.Ground.{Ground}
 use Rattle.ground_model.specs.Invariant.{IsGroundProblem}
 use Rattle.ground_model.specs.Steps.{ground_process}
+use Rattle.distinct_actions.specs.Enough.{AreEnough}
+use Rattle.distinct_actions.specs.Laws.{LowerByEnough, UpperByEnough}
 use Rattle.bound_core.specs.Numbers.{quit_word, IsSupported}
 use Rattle.word_view.specs.declared.view.View.{View}
 use Rattle.word_view.specs.Views.{number, knows, has_state, seen_lower, seen_upper, noted_lower, noted_upper, CanRaise, CanSink}
@@ -92,9 +94,10 @@ module _ (b : Board) (k : Knowledge) (id : ℕ) (s : State) (found : List Found)
   found_at l of is = are_found b.problem k.view l.view s (problem_of b k of) (grows b k l is.keeps).later is.one found is.each
 
   module _ (of : IsOf b k) (problem : IsGroundProblem b.problem) (off : (ground_process b.problem).goal s ≡ false)
-      (codes : map (λ (f : Found). f.code) found ≡ (ground_process b.problem).choices s) (l : Knowledge) (is : IsChosen b k l id s found) where
-    raise_is_allowed : CanRaise l.view id (least_low b.problem.penalty s found)
-    raise_is_allowed = can_raise b.problem problem k.view l.view s off found codes (found_at l of is) id (problem_of b l is.keeps.here) is.known is.has
+      (enough : AreEnough b.problem s (map (λ (f : Found). f.code) found)) (l : Knowledge) (is : IsChosen b k l id s found) where
+    raise_is_allowed : LowerByEnough → CanRaise l.view id (least_low b.problem.penalty s found)
+    raise_is_allowed law =
+        can_raise b.problem problem k.view l.view s off found enough (found_at l of is) law id (problem_of b l is.keeps.here) is.known is.has
 
     sink_is_allowed : CanSink l.view id (least_word b.problem.penalty s found)
     sink_is_allowed = (
@@ -103,17 +106,17 @@ module _ (b : Board) (k : Knowledge) (id : ℕ) (s : State) (found : List Found)
         s,
         is.has,
         subst (λ (p : Ground). IsSupported p (seen_upper l.view) s (least_word b.problem.penalty s found)) (sym (problem_of b l is.keeps.here))
-            (upper_follows b.problem problem k.view l.view s off found codes (found_at l of is)),
+            (upper_follows b.problem problem k.view l.view s off found enough (found_at l of is)),
       ),
     )
 
     -- these numbers were noted since
-    backs_up : (n : Knowledge) → HasMore l.view n.view → least_low b.problem.penalty s found ≤ noted_lower n.view id
+    backs_up : UpperByEnough → (n : Knowledge) → HasMore l.view n.view → least_low b.problem.penalty s found ≤ noted_lower n.view id
         → noted_upper n.view id ≤ least_word b.problem.penalty s found → IsBackedUp b.problem k.view n.view s
-    backs_up n more raised sunk =
+    backs_up law n more raised sunk =
         let each = found_at l of is in
-        let low = lower_is_backed b.problem problem k.view l.view s off found codes each in
-        let high = upper_is_backed b.problem problem k.view l.view s off found codes each in
+        let low = lower_is_backed b.problem problem k.view l.view s off found enough each in
+        let high = upper_is_backed b.problem problem k.view l.view s off found enough each law in
         let has = has_state_more l.view n.view more id s is.has in
         let seen = noted_lower_is_seen n.view id s has in let seen' = noted_upper_is_seen n.view id s has in
         record { lower = omega arith; upper = omega arith }
@@ -130,10 +133,10 @@ rests g v w id s last state on loads is = (
 )
 
 pub has_backed_up : (g : Ground) (v w : View) (id : ℕ) (s : State) (last : Last) (found : List Found) → IsStateOf v w id s → (ground_process g).goal s ≡ false
-    → map (λ (f : Found). f.code) found ≡ (ground_process g).choices s → All (IsFound g v w s) found
+    → AreEnough g s (map (λ (f : Found). f.code) found) → All (IsFound g v w s) found
     → w.loads ≡ loads_in (flat_map (λ (f : Found). f.readings) found) ++ v.loads → IsAnswer g.penalty s found last
     → least_low g.penalty s found ≤ noted_lower w id → noted_upper w id ≤ least_word g.penalty s found → HasBackedUp g v w id last
-has_backed_up g v w id s last found state off codes each loads answer raised sunk = (
+has_backed_up g v w id s last found state off enough each loads answer raised sunk = (
   s,
   state,
   (
@@ -141,7 +144,7 @@ has_backed_up g v w id s last found state off codes each loads answer raised sun
     λ _. (
       found,
       record {
-        readings = record { codes = codes; each = each; loads = loads };
+        readings = record { codes = enough; each = each; loads = loads };
         answer = answer;
         raised = raised;
         sunk = sunk;
@@ -154,15 +157,15 @@ has_backed_up g v w id s last found state off codes each loads answer raised sun
 
 pub has_weighed : (b : Board) (k k1 k2 : Knowledge) (id : ℕ) (s : State) (codes : List ℕ) (chosen : List Step) (best : Best) → IsGroundProblem b.problem
     → (ground_process b.problem).goal s ≡ false → Keeps b k k1 → IsStateOf k.view k1.view id s → k1.view.loads ≡ k.view.loads → Keeps b k1 k2
-    → HasChosen b.problem k1.view k2.view s codes chosen best → codes ≡ (ground_process b.problem).choices s
+    → HasChosen b.problem k1.view k2.view s codes chosen best → AreEnough b.problem s codes
     → HasWeighed b k k2 id (last_in best.code best.den chosen) best.lower best.word
-has_weighed b k k1 k2 id s codes chosen best problem off first state loads second has codes_are = record {
+has_weighed b k k1 k2 id s codes chosen best problem off first state loads second has enough = record {
   problem = problem;
   state = s;
   is = record { has = has_state_more k1.view k2.view second.noted id s state.has; one = state.one };
   off_goal = off;
   found = has.found;
-  codes = has.codes_are ∙ codes_are;
+  codes = subst (AreEnough b.problem s) (sym has.codes_are) enough;
   each = All-weaker (IsReadAction b.problem k1.view k2.view s) (IsReadAction b.problem k.view k2.view s)
       (λ f. found_stays b.problem k.view k1.view k2.view k2.view s f (grows b k k1 first) (grows_all k2.view)) has.found has.each;
   loads = has.loads ∙ ap (λ ls. loads_in (flat_map (λ (f : Found). f.readings) has.found) ++ ls) loads;
@@ -226,8 +229,8 @@ module _ (b : Board) (k l m : Knowledge) (id : ℕ) (last : Last) (lower word : 
   each_is_found : All (IsFound b.problem k.view m.view w.state) w.found
   each_is_found = found_at b k id w.state w.found m of is_weighed
 
-  pub may_raise : CanRaise m.view id lower
-  may_raise = subst (CanRaise m.view id) (sym w.lower_is) (raise_is_allowed b k id w.state w.found of w.problem w.off_goal w.codes m is_weighed)
+  pub may_raise : LowerByEnough → CanRaise m.view id lower
+  may_raise law = subst (CanRaise m.view id) (sym w.lower_is) (raise_is_allowed b k id w.state w.found of w.problem w.off_goal w.codes m is_weighed law)
 
   pub may_sink : CanSink m.view id word
   may_sink = subst (CanSink m.view id) (sym w.word_is) (sink_is_allowed b k id w.state w.found of w.problem w.off_goal w.codes m is_weighed)
@@ -244,12 +247,12 @@ module _ (b : Board) (k l m : Knowledge) (id : ℕ) (last : Last) (lower word : 
       has_backed_up b.problem k.view m.view id w.state last w.found (record { has = is_weighed.has; one = w.is.one }) w.off_goal w.codes each_is_found
       (loads ∙ w.loads) w.answer (omega arith) (omega arith)
 
-  pub narrows_since : (n : Knowledge) → HasMore m.view n.view → lower ≤ noted_lower n.view id → noted_upper n.view id ≤ word
+  pub narrows_since : UpperByEnough → (n : Knowledge) → HasMore m.view n.view → lower ≤ noted_lower n.view id → noted_upper n.view id ≤ word
       → Narrows b.problem k.view n.view id
-  narrows_since n more raised sunk =
+  narrows_since law n more raised sunk =
       let low = w.lower_is in let high = w.word_is in
       narrows_all b.problem k.view n.view id w.state (record { has = has_state_more m.view n.view more id w.state is_weighed.has; one = w.is.one })
-      (backs_up b k id w.state w.found of w.problem w.off_goal w.codes m is_weighed n more (omega arith) (omega arith))
+      (backs_up b k id w.state w.found of w.problem w.off_goal w.codes m is_weighed law n more (omega arith) (omega arith))
 
 -- ---- by one fact
 
@@ -281,8 +284,8 @@ module _ (b : Board) (k k2 k5 : Knowledge) (id : ℕ) (last : Last) (lower word 
   pub settled_keeps : Keeps b k k5
   settled_keeps = keeps_again b k k2 k5 second third
 
-  pub settled_narrows : Narrows b.problem k.view k5.view id
-  settled_narrows = narrows_since b k k2 k5 id last lower word of known second w third one_each k5 (has_all k5.view) is_raised is_sunk
+  pub settled_narrows : UpperByEnough → Narrows b.problem k.view k5.view id
+  settled_narrows law = narrows_since b k k2 k5 id last lower word of known second w third one_each law k5 (has_all k5.view) is_raised is_sunk
 
   pub settled_choices : AreChoices last
   settled_choices = choices_then b k k2 k5 id last lower word of known second w third one_each

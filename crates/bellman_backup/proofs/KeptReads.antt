@@ -16,7 +16,6 @@ use Rattle.ground_model.specs.Packed.{State, has_bit}
 use Rattle.ground_model.specs.Choices.{cost_of, next_state}
 use Rattle.ground_model.specs.Ground.{Ground}
 use Rattle.ground_model.specs.Invariant.{IsAction, IsGroundProblem}
-use Rattle.ground_model.specs.Steps.{ground_process}
 use Rattle.ground_model.proofs.Steps.{slice_get-contains}
 use Rattle.word_view.specs.declared.view.View.{View}
 use Rattle.word_view.specs.Views.{knows}
@@ -40,11 +39,12 @@ use Rattle.bellman_backup.specs.Kept.{LeadsTo, IsKeptAction, IsKeptAt, AreKept, 
 use Rattle.bellman_backup.specs.Places.{IsPlace}
 use Rattle.bellman_backup.specs.Totals.{IsSmallStep, HasReadNext, HasRead, HasReadAction}
 use Rattle.bellman_backup.proofs.Keeping.{keeps_all, keeps_again, grows}
-use Rattle.bellman_backup.proofs.KeptRows.{grown_all, id_later, kept_still, state_later}
+use Rattle.bellman_backup.proofs.KeptRows.{grown_all, id_later, action_later, state_later}
 use Rattle.bellman_backup.proofs.Summing.{nothing_read, read_more, product_within}
 use Rattle.bellman_backup.proofs.Narrowing.{action_is}
 use Rattle.bellman_backup.proofs.Answering.{weight_within}
 use Rattle.bellman_backup.proofs.Finishing.{action_goes_on}
+use Rattle.bellman_backup.proofs.TransitionsKept.{take_all}
 
 pub goes_nowhere : (b : Board) (k : Knowledge) → IsOf b k → GoesOn b k k
 goes_nowhere b k of = record { here = of; noted = has_all k.view; rights = refl; count = omega arith; loads = refl; looks = ([], refl) }
@@ -210,52 +210,49 @@ kept_ends b k l ids a kept steps sums i so all s is =
 
 pub record KeptChosen (b : Board) (k l : Knowledge) (t : Transitions) (row : KeptRow) (chosen : List Step) (best : Best) (i : ℕ) : Type 0 where
   pub keeps : Keeps b k l
-  pub chosen_is : (s : State) → AreKept k.view s b.problem t row
-      → HasChosen b.problem k.view l.view s (take i ((ground_process b.problem).choices s)) chosen best
+  pub chosen_is : (s : State) (are : AreKept k.view s b.problem t row)
+      → HasChosen b.problem k.view l.view s (take i are.codes) chosen best
 
 same_action : {X : Type 0} (xs : List X) (i : ℕ) (x y : X) → slice_get xs i ≡ Some x → slice_get xs i ≡ Some y → x ≡ y
 same_action xs i x y one other = cc
 
 -- the action in this place
-module _ (b : Board) (l : Knowledge) (s : State) (t : Transitions) (row : KeptRow) (is : AreKept l.view s b.problem t row) (i : ℕ) (own : KeptAction)
-    (below : i < length ((ground_process b.problem).choices s)) (here : slice_get t.actions (row.first + i) ≡ Some own) where
-  abbrev code : ℕ
-  code = get_or ((ground_process b.problem).choices s) i 0
+module _ (b : Board) (k l : Knowledge) (s : State) (t : Transitions) (row : KeptRow) (are : AreKept k.view s b.problem t row) (later : HasMore k.view l.view)
+    (i : ℕ) (own : KeptAction) (below : i < length are.codes) (here : slice_get t.actions (row.first + i) ≡ Some own) where
+  pub own_is_kept : IsKeptAt k.view s b.problem t.ids (get_or are.codes i 0) own
+  own_is_kept = let e = are.each i below in
+      subst (λ x. IsKeptAt k.view s b.problem t.ids (get_or are.codes i 0) x) (same_action t.actions (row.first + i) e.0 own e.1 here) e.2
 
-  pub own_is_kept : IsKeptAt l.view s b.problem t.ids code own
-  own_is_kept = let e = is.each i below in
-      subst (λ k. IsKeptAt l.view s b.problem t.ids code k) (same_action t.actions (row.first + i) e.0 own e.1 here) e.2
-
-  module _ (a : GroundAction) (coded : slice_get b.problem.actions own.code ≡ Some a) where
-    own_action : own_is_kept.action ≡ a
-    own_action = same_action b.problem.actions code own_is_kept.action a own_is_kept.here
-        (subst (λ n. slice_get b.problem.actions n ≡ Some a) own_is_kept.code_is coded)
-
-    pub action_is_kept : IsKeptAction l.view s t.ids a own
-    action_is_kept = subst (λ x. IsKeptAction l.view s t.ids x own) own_action own_is_kept.kept
+  pub action_is_kept : (a : GroundAction) → slice_get b.problem.actions own.code ≡ Some a → IsKeptAction l.view s t.ids a own
+  action_is_kept a coded =
+      let is : own_is_kept.action ≡ a = same_action b.problem.actions (get_or are.codes i 0) own_is_kept.action a own_is_kept.here
+      (subst (λ n. slice_get b.problem.actions n ≡ Some a) own_is_kept.code_is coded) in
+      subst (λ x. IsKeptAction l.view s t.ids x own) is
+      (action_later k.view l.view later s t.ids own_is_kept.action own own_is_kept.kept)
 
 pub record IsOwnAt (b : Board) (l : Knowledge) (s : State) (t : Transitions) (row : KeptRow) (i : ℕ) (own : KeptAction) : Type 0 where
-  pub are : AreKept l.view s b.problem t row
-  pub below : i < length ((ground_process b.problem).choices s)
   pub here : slice_get t.actions (row.first + i) ≡ Some own
   pub coded : own.code < length b.problem.actions
+  pub kept : (a : GroundAction) → slice_get b.problem.actions own.code ≡ Some a → IsKeptAction l.view s t.ids a own
+
+pub place_is_coded : (b : Board) (k : Knowledge) (s : State) (t : Transitions) (row : KeptRow) (i : ℕ) (are : AreKept k.view s b.problem t row)
+    → i < row.past - row.first → i < length are.codes
+place_is_coded b k s t row i are within = let n = are.count in omega arith
 
 pub is_inside : (b : Board) (k : Knowledge) (s : State) (t : Transitions) (row : KeptRow) (i : ℕ) → AreKept k.view s b.problem t row → i < row.past - row.first
     → row.first + i < length t.actions
 is_inside b k s t row i are within =
-    let below : i < length ((ground_process b.problem).choices s) = (let n = are.count in omega arith) in
-    let e = are.each i below in slice_get_within t.actions (row.first + i) e.0 e.1
+    let e = are.each i (place_is_coded b k s t row i are within) in slice_get_within t.actions (row.first + i) e.0 e.1
 
 pub is_own_at : (b : Board) (k l : Knowledge) (s : State) (t : Transitions) (row : KeptRow) (i : ℕ) (own : KeptAction)
     → HasMore k.view l.view → AreKept k.view s b.problem t row → i < row.past - row.first → slice_get t.actions (row.first + i) ≡ Some own
     → IsOwnAt b l s t row i own
 is_own_at b k l s t row i own later are within here =
-    let codes : List ℕ = (ground_process b.problem).choices s in
-    let below : i < length codes = (let n = are.count in omega arith) in
-    let still = kept_still k.view l.view later s b.problem t row are in
-    let is : IsKeptAt l.view s b.problem t.ids (get_or codes i 0) own = own_is_kept b l s t row still i own below here in
-    let within_all = slice_get_within b.problem.actions (get_or codes i 0) is.action is.here in
-    let code = is.code_is in record { are = still; below = below; here = here; coded = omega arith }
+    let below : i < length are.codes = place_is_coded b k s t row i are within in
+    let is : IsKeptAt k.view s b.problem t.ids (get_or are.codes i 0) own = own_is_kept b k l s t row are later i own below here in
+    let within_all = slice_get_within b.problem.actions (get_or are.codes i 0) is.action is.here in
+    let code = is.code_is in
+    record { here = here; coded = omega arith; kept = action_is_kept b k l s t row are later i own below here }
 
 pub record IsActionAt (b : Board) (l : Knowledge) (s : State) (t : Transitions) (own : KeptAction) (a : GroundAction) : Type 0 where
   pub coded : slice_get b.problem.actions own.code ≡ Some a
@@ -271,31 +268,33 @@ is_action_at b l s t row i own at problem all same a read =
     subst (λ (xs : List GroundAction). slice_get xs own.code ≡ Some a) same (slice_get_read all (length all) own.code a refl inside read) in record {
       coded = coded;
       is = action_is b.problem problem own.code a coded;
-      kept = action_is_kept b l s t row at.are i own at.below at.here a coded;
+      kept = at.kept a coded;
     }
 
 pub chosen_goes_on : (b : Board) (k l m : Knowledge) (t : Transitions) (row : KeptRow) (chosen chosen' tried : List Step) (best best' : Best) (i : ℕ) (own : KeptAction) (a : GroundAction)
-    (sums : Sums) → KeptChosen b k l t row chosen best i → Keeps b l m
-    → ((s : State) → AreKept k.view s b.problem t row → i < length ((ground_process b.problem).choices s))
-    → ((s : State) → i < length ((ground_process b.problem).choices s)
-    → take (i + 1) ((ground_process b.problem).choices s) ≡ take i ((ground_process b.problem).choices s) ++ get_or ((ground_process b.problem).choices s) i 0 ∷ [])
+    (sums : Sums) → KeptChosen b k l t row chosen best i → Keeps b l m → i < row.past - row.first
     → slice_get t.actions (row.first + i) ≡ Some own → slice_get b.problem.actions own.code ≡ Some a
     → ((s : State) → IsKeptAction l.view s t.ids a own → HasReadAction b.problem l.view m.view s a tried sums)
     → best'.lower ≡ min (sums.lower / a.den) best.lower → best'.word ≡ min (word_of (div_ceil sums.upper a.den) own.code) best.word
     → (best'.lower < best.lower → last_in best'.code best'.den chosen' ≡ last_in own.code a.den tried)
     → (best.lower ≤ best'.lower → last_in best'.code best'.den chosen' ≡ last_in best.code best.den chosen)
     → KeptChosen b k m t row chosen' best' (i + 1)
-chosen_goes_on b k l m t row chosen chosen' tried best best' i own a sums so keeps inside more here coded read lower word better same = record {
+chosen_goes_on b k l m t row chosen chosen' tried best best' i own a sums so keeps within here coded read lower word better same = record {
   keeps = keeps_again b k l m so.keeps keeps;
   chosen_is = λ s are.
-      let codes : List ℕ = (ground_process b.problem).choices s in
-      let below = inside s are in
-      let still : AreKept l.view s b.problem t row = kept_still k.view l.view so.keeps.noted s b.problem t row are in
-      let code_is : own.code ≡ get_or codes i 0 = (own_is_kept b l s t row still i own below here).code_is in
+      let codes : List ℕ = are.codes in
+      let below : i < length codes = place_is_coded b k s t row i are within in
+      let code_is : own.code ≡ get_or codes i 0 = (own_is_kept b k l s t row are so.keeps.noted i own below here).code_is in
       action_goes_on b k l m s (take i codes) (take (i + 1) codes) own.code a sums tried chosen chosen' best best' so.keeps keeps
-      (more s below ∙ ap (λ n. take i codes ++ n ∷ []) (sym code_is)) coded
-      (read s (action_is_kept b l s t row still i own below here a coded)) (so.chosen_is s are) lower word better same;
+      (take_more codes i 0 below ∙ ap (λ n. take i codes ++ n ∷ []) (sym code_is)) coded
+      (read s (action_is_kept b k l s t row are so.keeps.noted i own below here a coded)) (so.chosen_is s are) lower word better same;
 }
+
+-- all that are kept were read
+pub chosen_ends : (b : Board) (k l : Knowledge) (t : Transitions) (row : KeptRow) (chosen : List Step) (best : Best) (i : ℕ) → KeptChosen b k l t row chosen best i
+    → row.past - row.first ≤ i → (s : State) (are : AreKept k.view s b.problem t row) → HasChosen b.problem k.view l.view s are.codes chosen best
+chosen_ends b k l t row chosen best i so all s are =
+    subst (λ cs. HasChosen b.problem k.view l.view s cs chosen best) (take_all are.codes i (let n = are.count in omega arith)) (so.chosen_is s are)
 
 -- ---- the state of an id
 

@@ -7,6 +7,7 @@ use Rattle.std.proofs.lemmas.Option.{slice_get-get_or}
 use mathlib.Core.Logic.{dite}
 use native.Mathlib.Decide.{ℕ_discrete, dec_lt}
 use Rattle.ground_model.specs.declared.action.Choice.{Choice}
+use Rattle.ground_model.specs.declared.action.GroundAction.{GroundAction}
 use Rattle.ground_model.specs.Packed.{State}
 use Rattle.ground_model.specs.Ground.{Ground}
 use Rattle.ground_model.specs.Steps.{ground_process}
@@ -20,8 +21,8 @@ use Rattle.kept_transitions.specs.declared.kept_action.KeptAction.{KeptAction}
 use Rattle.kept_transitions.specs.declared.kept_row.KeptRow.{KeptRow}
 use Rattle.kept_transitions.specs.Rows.{Transitions, IsKept, never, new_kept, row_of, with_row}
 use Rattle.kept_transitions.specs.Meaning.{AreKeptStates, IsPlaceOf, HasGrown}
-use Rattle.kept_transitions.proofs.Still.{new_keeps_nothing, leads_still, at_still, are_kept_still, state_still}
-use Rattle.bellman_backup.specs.Kept.{LeadsTo, IsKeptAt, AreKept, IsKeptState, KeepsStates, IsKeeping}
+use Rattle.kept_transitions.proofs.Still.{new_keeps_nothing, leads_still, action_still, at_still, state_still}
+use Rattle.bellman_backup.specs.Kept.{LeadsTo, IsKeptAction, IsKeptAt, IsKeptState, KeepsStates, IsKeeping}
 
 -- ---- at first
 
@@ -66,8 +67,9 @@ module _ (v w : View) (more : HasMore v w) where
   pub at_later : (s : State) (ids later : List ℕ) (g : Ground) (code : ℕ) (k : KeptAction) → IsKeptAt v s g ids code k → IsKeptAt w s g (ids ++ later) code k
   at_later = at_still (IsIdOf v) (IsIdOf w) id_later
 
-  pub kept_still : (s : State) (g : Ground) (t : Transitions) (row : KeptRow) → AreKept v s g t row → AreKept w s g t row
-  kept_still s g t row is = are_kept_still (IsIdOf v) (IsIdOf w) id_later g t t row (grown_all t) s is
+  pub action_later : (s : State) (ids : List ℕ) (a : GroundAction) (k : KeptAction) → IsKeptAction v s ids a k → IsKeptAction w s ids a k
+  action_later s ids a k is =
+      subst (λ xs. IsKeptAction w s xs a k) (append-nil ids) (action_still (IsIdOf v) (IsIdOf w) id_later s ids [] a k is)
 
   pub state_later : (g : Ground) (id : ℕ) (t u : Transitions) (row : KeptRow) → HasGrown t u → IsKeptState g v id t row → IsKeptState g w id u row
   state_later = state_still (IsIdOf v) (IsIdOf w) id_later
@@ -120,7 +122,7 @@ other_rows g w j u id new row is = record {
   state = is.state;
   is = is.is;
   off_goal = is.off_goal;
-  actions = record { count = is.actions.count; each = is.actions.each };
+  actions = record { codes = is.actions.codes; enough = is.actions.enough; count = is.actions.count; each = is.actions.each };
 }
 
 module _ (g : Ground) (old : Option Knowledge) (k w : Knowledge) (t u : Transitions) (id : ℕ) (row : KeptRow) (grown : HasGrown t u)

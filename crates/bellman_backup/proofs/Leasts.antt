@@ -1,5 +1,5 @@
 -- The least over the open actions of a state, where no choice is written down.
-use Rattle.std.proofs.Common.{◌≡◌, ℕ, ◌+◌, ◌/◌, ◌<◌, ◌≤◌, min, nat_eq, Some, List, [], ◌∷◌, ◌++◌, length, take, get_or, refl, sym, ap, ◌∙◌, subst, arith}
+use Rattle.std.proofs.Common.{◌≡◌, ℕ, ◌+◌, ◌-◌, ◌/◌, ◌<◌, ◌≤◌, min, nat_eq, Some, List, [], ◌∷◌, refl, sym, ap, ◌∙◌, subst, arith}
 use Rattle.std.specs.Int.{div_ceil}
 use Rattle.std.specs.List.{slice_get}
 use Rattle.std.proofs.lemmas.Bool.{eq-eqb}
@@ -7,9 +7,8 @@ use mathlib.Core.Logic.{dite}
 use native.Mathlib.Decide.{dec_lt}
 use Rattle.fixed_round.specs.Words.{word_of}
 use Rattle.ground_model.specs.declared.action.GroundAction.{GroundAction}
-use Rattle.ground_model.specs.Packed.{State}
 use Rattle.ground_model.specs.Invariant.{IsGroundProblem}
-use Rattle.ground_model.specs.Steps.{ground_process}
+use Rattle.distinct_actions.specs.Laws.{UpperByEnough}
 use Rattle.bound_core.specs.Numbers.{quit_word}
 use Rattle.word_view.specs.Views.{number, knows, noted_lower, noted_upper}
 use Rattle.word_view.specs.Steps.{with_lower_load, with_upper_load}
@@ -27,16 +26,14 @@ use Rattle.bellman_backup.specs.declared.best.Best.{Best}
 use Rattle.bellman_backup.specs.declared.least.Least.{Least}
 use Rattle.bellman_backup.specs.declared.sums.Sums.{Sums}
 use Rattle.bellman_backup.specs.Backups.{Keeps, Narrows}
-use Rattle.bellman_backup.specs.Choosing.{HasChosen}
-use Rattle.bellman_backup.specs.Kept.{AreKept, IsKeptState}
+use Rattle.bellman_backup.specs.Kept.{IsKeptState}
 use Rattle.bellman_backup.specs.Weighing.{HasWeighed}
 use Rattle.bellman_backup.specs.Leasts.{HasSummed, HasLeast, CanNarrow}
 use Rattle.bellman_backup.proofs.Keeping.{keeps_all, keeps_again, keeps_lower_load, keeps_upper_load, grows}
 use Rattle.bellman_backup.proofs.Choosers.{none_chosen}
 use Rattle.bellman_backup.proofs.Narrowing.{narrows_earlier}
 use Rattle.bellman_backup.proofs.Finishing.{has_weighed, narrows_since}
-use Rattle.bellman_backup.proofs.TransitionsKept.{take_all}
-use Rattle.bellman_backup.proofs.KeptReads.{KeptSoFar, KeptChosen, chosen_goes_on, state_is_recalled}
+use Rattle.bellman_backup.proofs.KeptReads.{KeptSoFar, KeptChosen, chosen_goes_on, chosen_ends, state_is_recalled}
 
 -- ---- the choices of an action
 
@@ -77,10 +74,7 @@ least_begins b k t row first penalty same of within =
 
 module _ (b : Board) (k l m : Knowledge) (t : Transitions) (row : KeptRow) (first : ℕ) (least least' : Least) (i : ℕ) (own : KeptAction) (a : GroundAction)
     (sums : Sums) (so : LeastSoFar b k l t row first least i) (keeps : Keeps b l m)
-    (inside : (s : State) → AreKept k.view s b.problem t row → i < length ((ground_process b.problem).choices s))
-    (more : (s : State) → i < length ((ground_process b.problem).choices s)
-    → take (i + 1) ((ground_process b.problem).choices s) ≡ take i ((ground_process b.problem).choices s) ++ get_or ((ground_process b.problem).choices s) i 0 ∷ [])
-    (here : slice_get t.actions (row.first + i) ≡ Some own) (coded : slice_get b.problem.actions own.code ≡ Some a)
+    (within : i < row.past - row.first) (here : slice_get t.actions (row.first + i) ≡ Some own) (coded : slice_get b.problem.actions own.code ≡ Some a)
     (read : HasSummed b.problem l.view m.view t.ids a own sums) (den : 0 < least'.mean.den)
     (lower : least'.mean.sum / least'.mean.den ≡ min (sums.lower / a.den) (least.mean.sum / least.mean.den))
     (word : least'.word ≡ min (word_of (div_ceil sums.upper a.den) own.code) least.word) where
@@ -110,20 +104,19 @@ module _ (b : Board) (k l m : Knowledge) (t : Transitions) (row : KeptRow) (firs
   pub least_goes_on : LeastSoFar b k m t row first least' (i + 1)
   least_goes_on = dite (dec_lt (sums.lower / a.den) so.best.lower)
       (λ under. goes_on_as read.steps taken
-      (chosen_goes_on b k l m t row so.chosen read.steps read.steps so.best taken i own a sums so.is keeps inside more here coded read.is refl refl
+      (chosen_goes_on b k l m t row so.chosen read.steps read.steps so.best taken i own a sums so.is keeps within here coded read.is refl refl
       (λ _. refl) (λ over. absurd (omega arith))) refl refl)
       (λ over. goes_on_as so.chosen left
-      (chosen_goes_on b k l m t row so.chosen so.chosen read.steps so.best left i own a sums so.is keeps inside more here coded read.is refl refl
+      (chosen_goes_on b k l m t row so.chosen so.chosen read.steps so.best left i own a sums so.is keeps within here coded read.is refl refl
       (λ under. absurd (omega arith)) (λ _. refl)) refl refl)
 
 pub least_ends : (b : Board) (k l : Knowledge) (t : Transitions) (row : KeptRow) (first : ℕ) (least : Least) (i : ℕ) → LeastSoFar b k l t row first least i
-    → ((s : State) → AreKept k.view s b.problem t row → length ((ground_process b.problem).choices s) ≤ i) → HasLeast b.problem k.view l.view t row first least
+    → row.past - row.first ≤ i → HasLeast b.problem k.view l.view t row first least
 least_ends b k l t row first least i so all = record {
   den = so.den;
   chosen = so.chosen;
   best = so.best;
-  is = λ s are. subst (λ cs. HasChosen b.problem k.view l.view s cs so.chosen so.best) (take_all ((ground_process b.problem).choices s) i (all s are))
-      (so.is.chosen_is s are);
+  is = chosen_ends b k l t row so.chosen so.best i so.is all;
   lower = so.lower;
   word = so.word;
 }
@@ -157,8 +150,8 @@ module _ (b : Board) (k k' k0 k1 k2 : Knowledge) (id lower upper : ℕ) (t : Tra
       (eq-eqb id id refl))
 
   weighed : HasWeighed b k0 k2 id (last_in has.best.code has.best.den has.chosen) has.best.lower has.best.word
-  weighed = has_weighed b k0 k1 k2 id is.state ((ground_process b.problem).choices is.state) has.chosen has.best problem is.off_goal recalled
-      (state_is_recalled b.problem k0.view k1.view id t row is recalled.noted one) loads read (has.is is.state is.actions) refl
+  weighed = has_weighed b k0 k1 k2 id is.state is.actions.codes has.chosen has.best problem is.off_goal recalled
+      (state_is_recalled b.problem k0.view k1.view id t row is recalled.noted one) loads read (has.is is.state is.actions) is.actions.enough
 
   pub can_narrow : CanNarrow b k2 id lower upper least
   can_narrow = record {
@@ -182,9 +175,9 @@ module _ (b : Board) (k k' k0 k1 k2 : Knowledge) (id lower upper : ℕ) (t : Tra
     pub narrow_keeps : Keeps b k k3
     narrow_keeps = keeps_again b k k0 k3 loaded (keeps_again b k0 k2 k3 since narrowed)
 
-    pub narrow_narrows : Narrows b.problem k.view k3.view id
-    narrow_narrows =
+    pub narrow_narrows : UpperByEnough → Narrows b.problem k.view k3.view id
+    narrow_narrows law =
         let low = has.lower in let high = has.word in
         narrows_earlier b.problem k.view k0.view k3.view id (grows b k k0 loaded).later
         (narrows_since b k0 k2 k2 id (last_in has.best.code has.best.den has.chosen) has.best.lower has.best.word loaded.here (loaded.noted.known id known) since weighed
-        (keeps_all b k2 since.here) each k3 narrowed.noted (omega arith) (omega arith))
+        (keeps_all b k2 since.here) each law k3 narrowed.noted (omega arith) (omega arith))

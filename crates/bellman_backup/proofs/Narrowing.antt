@@ -1,18 +1,19 @@
 -- The numbers that the readings of the open actions come to follow from what was seen, and are the best that do.
-use Rattle.std.proofs.Common.{◌≡◌, ℕ, ◌*◌, ◌<◌, ◌≤◌, true, false, cond, Some, None, List, length, map, refl, sym, ap, ◌∙◌, subst, ⊎_elim, arith}
-use Rattle.std.specs.Prelude.{IsTrue, All, Contains, Option}
+use Rattle.std.proofs.Common.{◌≡◌, ℕ, ◌*◌, ◌<◌, ◌≤◌, true, false, cond, Some, None, List, length, map, sym, ap, ◌∙◌, subst, ⊎_elim, arith}
+use Rattle.std.specs.Prelude.{IsTrue, All, Contains}
 use Rattle.std.specs.List.{slice_get}
+use Rattle.std.proofs.Math.Nat.{mul-le-mul_right}
 use Rattle.std.proofs.lemmas.Bool.{both_ways, eq-eqb, ne_eqb}
 use Rattle.std.proofs.lemmas.List.Elements.{All-contains}
 use Rattle.std.proofs.lemmas.Option.{slice_get_within}
 use Rattle.plain_list.proofs.Members.{Contains-map, Contains-map_cases}
 use Rattle.fixed_round.specs.Words.{word_of, value_of, code_of}
 use Rattle.decision_process.specs.Process.{min_with}
-use Rattle.decision_process.specs.Backup.{action_value, lower_candidate, lower_backup, upper_backup}
+use Rattle.decision_process.specs.Backup.{action_value, lower_candidate, upper_candidate, lower_backup, upper_backup}
 use Rattle.decision_process.specs.Following.{IsLowerFrom, IsUpperFrom}
 use Rattle.decision_process.proofs.Choice.{min_with_is_least}
 use Rattle.decision_process.proofs.Rounding.{floor_is_greatest, ceiling_is_least}
-use Rattle.decision_process.proofs.Backups.{lower_backup_follows, lower_backup_rises, upper_backup_follows, upper_backup_rises}
+use Rattle.decision_process.proofs.Backups.{lower_backup_follows, lower_backup_rises, upper_backup_rises}
 use Rattle.ground_model.specs.declared.action.Choice.{Choice}
 use Rattle.ground_model.specs.declared.action.GroundAction.{GroundAction}
 use Rattle.ground_model.specs.Packed.{State, has_bit}
@@ -22,6 +23,8 @@ use Rattle.ground_model.specs.Invariant.{IsAction, IsGroundProblem}
 use Rattle.ground_model.specs.Steps.{ground_process, own_action_value}
 use Rattle.ground_model.proofs.OwnDen.{lower_by_own_den, upper_by_own_den}
 use Rattle.ground_model.proofs.Steps.{slice_get-contains, den_positive}
+use Rattle.distinct_actions.specs.Enough.{AreEnough}
+use Rattle.distinct_actions.specs.Laws.{LowerByEnough, UpperByEnough}
 use Rattle.bound_core.specs.declared.codes.TheConstants.{GIVE_UP}
 use Rattle.bound_core.specs.Numbers.{act_of, first_word, quit_word, IsSupported}
 use Rattle.word_view.specs.declared.view.View.{View}
@@ -91,9 +94,15 @@ module _ (g : Ground) (v w : View) (s : State) (f : Found) (is : IsFound g v w s
 -- ---- all actions
 
 module _ (g : Ground) (problem : IsGroundProblem g) (v w : View) (s : State) (off : (ground_process g).goal s ≡ false) (found : List Found)
-    (codes : map (λ (f : Found). f.code) found ≡ (ground_process g).choices s) (each : All (IsFound g v w s) found) where
-  found_of : (a : ℕ) → Contains ((ground_process g).choices s) a → (f : Found) × Contains found f × (f.code ≡ a)
-  found_of a there = Contains-map_cases (λ (f : Found). f.code) found a (subst (λ (xs : List ℕ). Contains xs a) (sym codes) there)
+    (enough : AreEnough g s (map (λ (f : Found). f.code) found)) (each : All (IsFound g v w s) found) where
+  abbrev codes : List ℕ
+  codes = map (λ (f : Found). f.code) found
+
+  found_of : (a : ℕ) → Contains codes a → (f : Found) × Contains found f × (f.code ≡ a)
+  found_of a there = Contains-map_cases (λ (f : Found). f.code) found a there
+
+  found_is_open : (f : Found) → Contains found f → Contains ((ground_process g).choices s) f.code
+  found_is_open f there = enough.are_open f.code (Contains-map (λ (e : Found). e.code) found f there)
 
   is_found : (f : Found) → Contains found f → IsFound g v w s f
   is_found f there = All-contains (IsFound g v w s) found f each there
@@ -104,18 +113,36 @@ module _ (g : Ground) (problem : IsGroundProblem g) (v w : View) (s : State) (of
   low_covers : (f : Found) (n : ℕ) → Contains found f → n ≤ low s f → n * f.action.den ≤ sum_of s (λ r. r.lower) f
   low_covers f n there below = (floor_is_greatest n (sum_of s (λ r. r.lower) f) f.action.den (positive f there)).0 below
 
-  pub lower_follows : IsLowerFrom (ground_process g) (seen_lower w) s (least_low g.penalty s found)
-  lower_follows =
-      let least = min_with_is_least g.penalty (low s) found in record {
+  low_follows : (f : Found) (n : ℕ) → Contains found f → n ≤ low s f → n ≤ lower_candidate (ground_process g) (seen_lower w) f.code s
+  low_follows f n there below =
+      let own = low_covers f n there below in
+      let until = lower_until g v w s f (is_found f there) in
+      let step : n * (ground_process g).den ≤ action_value (ground_process g) (seen_lower w) f.code s
+      = (lower_by_own_den g problem (seen_lower w) f.code f.action s n (is_found f there).here).1 (omega arith) in
+      (floor_is_greatest n (action_value (ground_process g) (seen_lower w) f.code s) (ground_process g).den (den_positive g problem)).1 step
+
+  -- actions that are enough have the least candidate of all
+  within_backup : LowerByEnough → least_low g.penalty s found ≤ lower_backup (ground_process g) (seen_lower w) s
+  within_backup law =
+      let n : ℕ = least_low g.penalty s found in let least = min_with_is_least g.penalty (low s) found in
+      subst (λ m. n ≤ m) (law g s codes enough off (seen_lower w))
+      (⊎_elim
+      (λ is. let top = least.within_top in omega arith)
+      (λ t. let at = found_of t.0 t.1 in
+      let own : n ≤ lower_candidate (ground_process g) (seen_lower w) t.0 s
+      = subst (λ k. n ≤ lower_candidate (ground_process g) (seen_lower w) k s) at.2 (low_follows at.0 n at.1 (least.within_each at.0 at.1)) in
+      let is = t.2 in omega arith)
+      (min_with_is_least g.penalty (λ k. lower_candidate (ground_process g) (seen_lower w) k s) codes).one_of_them)
+
+  pub lower_follows : LowerByEnough → IsLowerFrom (ground_process g) (seen_lower w) s (least_low g.penalty s found)
+  lower_follows law =
+      let follows = lower_backup_follows (ground_process g) (seen_lower w) s in let within = within_backup law in record {
         at_goal = λ on. absurd (both_ways ((ground_process g).goal s) off on);
-        within_quit = λ _. least.within_top;
+        within_quit = λ _. (min_with_is_least g.penalty (low s) found).within_top;
         within_step = λ a _ there.
-            let t = found_of a there in let f : Found = t.0 in
-            let own = low_covers f (least_low g.penalty s found) t.1 (least.within_each f t.1) in
-            let until = lower_until g v w s f (is_found f t.1) in
-            let here : least_low g.penalty s found * (ground_process g).den ≤ action_value (ground_process g) (seen_lower w) f.code s =
-            (lower_by_own_den g problem (seen_lower w) f.code f.action s (least_low g.penalty s found) (is_found f t.1).here).1 (omega arith) in
-            subst (λ k. least_low g.penalty s found * (ground_process g).den ≤ action_value (ground_process g) (seen_lower w) k s) t.2 here;
+            let step = follows.within_step a off there in
+            let scaled : least_low g.penalty s found * (ground_process g).den ≤ lower_backup (ground_process g) (seen_lower w) s * (ground_process g).den
+            = mul-le-mul_right (ground_process g).den within in omega arith;
       }
 
   quit_follows : IsUpperFrom (ground_process g) (λ t. value_of (seen_upper w t)) s (act_of (quit_word g.penalty)) (value_of (quit_word g.penalty))
@@ -135,10 +162,9 @@ module _ (g : Ground) (problem : IsGroundProblem g) (v w : View) (s : State) (of
       (ceiling_is_least (high s f) (sum_of s (λ r. value_of r.word) f) f.action.den (positive f there)).0 (omega arith) in
       let until = upper_until g v w s f (is_found f there) in
       let here : action_value (ground_process g) (λ t. value_of (seen_upper w t)) f.code s ≤ high s f * (ground_process g).den =
-      (upper_by_own_den g problem (λ t. value_of (seen_upper w t)) f.code f.action s (high s f) (is_found f there).here).1 (omega arith) in
-      let open' : Contains ((ground_process g).choices s) f.code = subst (λ (xs : List ℕ). Contains xs f.code) codes (Contains-map (λ (e : Found). e.code) found f there) in record {
+      (upper_by_own_den g problem (λ t. value_of (seen_upper w t)) f.code f.action s (high s f) (is_found f there).here).1 (omega arith) in record {
         covers_quit = λ _ none. absurd (none_is_not_some f.code (sym none ∙ act));
-        is_open = λ a _ is. subst (λ k. Contains ((ground_process g).choices s) k) (some_is f.code a (sym act ∙ is)) open';
+        is_open = λ a _ is. subst (λ k. Contains ((ground_process g).choices s) k) (some_is f.code a (sym act ∙ is)) (found_is_open f there);
         covers_step = λ a _ is. subst (λ k. action_value (ground_process g) (λ t. value_of (seen_upper w t)) k s ≤ value_of (act_word s f) * (ground_process g).den)
             (some_is f.code a (sym act ∙ is))
             (subst (λ n. action_value (ground_process g) (λ t. value_of (seen_upper w t)) f.code s ≤ n * (ground_process g).den) (sym value) here);
@@ -153,8 +179,9 @@ module _ (g : Ground) (problem : IsGroundProblem g) (v w : View) (s : State) (of
         (min_with_is_least (quit_word g.penalty) (act_word s) found).one_of_them;
   }
 
-  pub can_raise : (id : ℕ) → w.problem ≡ g → knows w id → IsTrue (has_state w id s) → CanRaise w id (least_low g.penalty s found)
-  can_raise id same known has = (known, (s, has, subst (λ (p : Ground). IsLowerFrom (ground_process p) (seen_lower w) s (least_low g.penalty s found)) (sym same) lower_follows))
+  pub can_raise : LowerByEnough → (id : ℕ) → w.problem ≡ g → knows w id → IsTrue (has_state w id s) → CanRaise w id (least_low g.penalty s found)
+  can_raise law id same known has =
+      (known, (s, has, subst (λ (p : Ground). IsLowerFrom (ground_process p) (seen_lower w) s (least_low g.penalty s found)) (sym same) (lower_follows law)))
 
   -- ---- no number that follows from what was seen before is better
 
@@ -169,33 +196,40 @@ module _ (g : Ground) (problem : IsGroundProblem g) (v w : View) (s : State) (of
       let n : ℕ = lower_backup (ground_process g) (seen_lower v) s in
       let follows = lower_backup_follows (ground_process g) (seen_lower v) s in
       above_each n (follows.within_quit off) (λ f there.
-      let open' : Contains ((ground_process g).choices s) f.code = subst (λ (xs : List ℕ). Contains xs f.code) codes (Contains-map (λ (e : Found). e.code) found f there) in
-      let step = follows.within_step f.code off open' in
+      let step = follows.within_step f.code off (found_is_open f there) in
       let own = (lower_by_own_den g problem (seen_lower v) f.code f.action s n (is_found f there).here).0 step in
       let since = lower_since g v w s f (is_found f there) in
       (floor_is_greatest n (sum_of s (λ r. r.lower) f) f.action.den (positive f there)).1 (omega arith))
 
-  by_act : (n : ℕ) (act : Option ℕ) → IsUpperFrom (ground_process g) (λ t. value_of (seen_upper v t)) s act n
-      → value_of (least_word g.penalty s found) ≤ n
-  by_act n None follows =
+  by_quit : value_of (least_word g.penalty s found) ≤ g.penalty
+  by_quit =
       let top = value_rises (least_word g.penalty s found) (quit_word g.penalty) (min_with_is_least (quit_word g.penalty) (act_word s) found).within_top in
-      let is = value_is g.penalty GIVE_UP (omega arith) in
-      let quit = follows.covers_quit off refl in omega arith
-  by_act n (Some a) follows =
-      let t = found_of a (follows.is_open a off refl) in let f : Found = t.0 in
-      let step : action_value (ground_process g) (λ t. value_of (seen_upper v t)) f.code s ≤ n * (ground_process g).den =
-      subst (λ k. action_value (ground_process g) (λ t. value_of (seen_upper v t)) k s ≤ n * (ground_process g).den) (sym t.2) (follows.covers_step a off refl) in
-      let own = (upper_by_own_den g problem (λ t. value_of (seen_upper v t)) f.code f.action s n (is_found f t.1).here).0 step in
-      let since = upper_since g v w s f (is_found f t.1) in
-      let within : high s f ≤ n = (ceiling_is_least n (sum_of s (λ r. value_of r.word) f) f.action.den (positive f t.1)).1 (omega arith) in
-      let small = code_within g problem f.code f.action (is_found f t.1).here in
-      let value = value_is (high s f) f.code (omega arith) in
-      let under = value_rises (least_word g.penalty s found) (act_word s f) ((min_with_is_least (quit_word g.penalty) (act_word s) found).within_each f t.1) in omega arith
+      let is = value_is g.penalty GIVE_UP (omega arith) in omega arith
 
-  pub upper_is_backed : value_of (least_word g.penalty s found) ≤ upper_backup (ground_process g) (λ t. value_of (seen_upper v t)) s
-  upper_is_backed =
-      let t = upper_backup_follows (ground_process g) (den_positive g problem) (λ t. value_of (seen_upper v t)) s in
-      by_act (upper_backup (ground_process g) (λ t. value_of (seen_upper v t)) s) t.0 t.1
+  by_act : (f : Found) → Contains found f
+      → value_of (least_word g.penalty s found) ≤ upper_candidate (ground_process g) (λ t. value_of (seen_upper v t)) f.code s
+  by_act f there =
+      let x : ℕ = action_value (ground_process g) (λ t. value_of (seen_upper v t)) f.code s in
+      let n : ℕ = upper_candidate (ground_process g) (λ t. value_of (seen_upper v t)) f.code s in
+      let step : x ≤ n * (ground_process g).den = (ceiling_is_least n x (ground_process g).den (den_positive g problem)).0 (omega arith) in
+      let own = (upper_by_own_den g problem (λ t. value_of (seen_upper v t)) f.code f.action s n (is_found f there).here).0 step in
+      let since = upper_since g v w s f (is_found f there) in
+      let within : high s f ≤ n = (ceiling_is_least n (sum_of s (λ r. value_of r.word) f) f.action.den (positive f there)).1 (omega arith) in
+      let small = code_within g problem f.code f.action (is_found f there).here in
+      let value = value_is (high s f) f.code (omega arith) in
+      let under = value_rises (least_word g.penalty s found) (act_word s f) ((min_with_is_least (quit_word g.penalty) (act_word s) found).within_each f there) in omega arith
+
+  pub upper_is_backed : UpperByEnough → value_of (least_word g.penalty s found) ≤ upper_backup (ground_process g) (λ t. value_of (seen_upper v t)) s
+  upper_is_backed law =
+      let n : ℕ = value_of (least_word g.penalty s found) in
+      subst (λ m. n ≤ m) (law g s codes enough off (λ t. value_of (seen_upper v t)))
+      (⊎_elim
+      (λ is. let quit = by_quit in omega arith)
+      (λ t. let at = found_of t.0 t.1 in
+      let own : n ≤ upper_candidate (ground_process g) (λ t. value_of (seen_upper v t)) t.0 s
+      = subst (λ k. n ≤ upper_candidate (ground_process g) (λ t. value_of (seen_upper v t)) k s) at.2 (by_act at.0 at.1) in
+      let is = t.2 in omega arith)
+      (min_with_is_least g.penalty (λ k. upper_candidate (ground_process g) (λ t. value_of (seen_upper v t)) k s) codes).one_of_them)
 
 -- ---- at a goal nothing is left to narrow
 

@@ -17,6 +17,7 @@ use Rattle.ground_model.specs.Ground.{Ground}
 use Rattle.ground_model.specs.Invariant.{IsChoice, IsGroundProblem}
 use Rattle.ground_model.specs.Steps.{ground_process, den_of, is_open_at, outcome_of, step_at}
 use Rattle.ground_step.proofs.Outcomes.{cost_within}
+use Rattle.distinct_actions.specs.Enough.{AreEnough}
 use Rattle.bound_core.specs.Numbers.{first_word}
 use Rattle.word_view.specs.declared.view.View.{View}
 use Rattle.word_view.specs.Views.{IsReached}
@@ -195,6 +196,6 @@ open_code_is_inside g s k there =
     (filter_passes (λ j. is_open_at (slice_get g.actions j) s) (range_with_len 0 (length g.actions))) there) in
     slice_get_within g.actions k found.0 found.1
 
-pub code_is_open : (g : Ground) (s : State) (codes : List ℕ) (i : ℕ) → codes ≡ (ground_process g).choices s → i < length codes
+pub code_is_open : (g : Ground) (s : State) (codes : List ℕ) (i : ℕ) → AreEnough g s codes → i < length codes
     → Contains ((ground_process g).choices s) (get_or codes i 0)
-code_is_open g s codes i same inside = subst (λ (xs : List ℕ). Contains xs (get_or codes i 0)) same (Contains-get_or codes i 0 inside)
+code_is_open g s codes i enough inside = enough.are_open (get_or codes i 0) (Contains-get_or codes i 0 inside)

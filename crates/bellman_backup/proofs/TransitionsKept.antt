@@ -12,7 +12,7 @@ use Rattle.ground_model.specs.declared.action.Choice.{Choice}
 use Rattle.ground_model.specs.declared.action.GroundAction.{GroundAction}
 use Rattle.ground_model.specs.Packed.{State, has_bit}
 use Rattle.ground_model.specs.Choices.{cost_of, next_state}
-use Rattle.ground_model.specs.Steps.{ground_process}
+use Rattle.distinct_actions.specs.Enough.{AreEnough}
 use Rattle.word_table.specs.Seen.{Board, Knowledge, IsOf}
 use Rattle.kept_transitions.specs.declared.kept_action.KeptAction.{KeptAction}
 use Rattle.kept_transitions.specs.declared.kept_row.KeptRow.{KeptRow}
@@ -216,13 +216,15 @@ actions_end b k l s codes t u i so all = record {
 -- ---- the row
 
 pub row_is_kept : (b : Board) (l : Knowledge) (s : State) (codes : List ℕ) (t u : Transitions) (row : KeptRow) → HaveKeptActions l.view s b.problem codes t u
-    → codes ≡ (ground_process b.problem).choices s → row.first ≡ length t.actions → row.past ≡ length u.actions → AreKept l.view s b.problem u row
-row_is_kept b l s codes t u row have same first past = record {
-  count = past ∙ have.count ∙ (λ i. sym first i + length (same i));
-  each = λ j below. let e = have.each j (let n = ap (λ (cs : List ℕ). length cs) same in omega arith) in (
+    → AreEnough b.problem s codes → row.first ≡ length t.actions → row.past ≡ length u.actions → AreKept l.view s b.problem u row
+row_is_kept b l s codes t u row have enough first past = record {
+  codes = codes;
+  enough = enough;
+  count = past ∙ have.count ∙ ap (λ n. n + length codes) (sym first);
+  each = λ j below. let e = have.each j below in (
     e.0,
     subst (λ n. slice_get u.actions (n + j) ≡ Some e.0) (sym first) e.1,
-    subst (λ (cs : List ℕ). IsKeptAt l.view s b.problem u.ids (get_or cs j 0) e.0) same e.2,
+    e.2,
   );
 }
 

@@ -2,7 +2,8 @@
 --     Keeps b old new            the same pass later: it has noted all that it had noted, and has the same rights
 --     IsStateOf v w id s         s is the state of id: w has it, and where v had one, it was s
 --     IsFound g v w s f          what was read of an open action of s, between v and w
---     AreFound g v w s found     readings of all open actions, in the order of their codes, by the loads that w has made since v
+--     AreFound g v w s found     readings of open actions that are enough, in the order of their codes, by the loads that w has made
+--                                since v
 --     IsBackup g v w id s last found
 --                                off goals: the answer is that of the readings, and w has noted their backup for id
 --     HasBackedUp g v w id last  at a goal nothing is read; elsewhere so it is for some readings
@@ -16,6 +17,7 @@ use Rattle.ground_model.specs.Packed.{State}
 use Rattle.ground_model.specs.Choices.{next_state}
 use Rattle.ground_model.specs.Ground.{Ground}
 use Rattle.ground_model.specs.Steps.{ground_process}
+use Rattle.distinct_actions.specs.Enough.{AreEnough}
 use Rattle.word_view.specs.declared.view.View.{View}
 use Rattle.word_view.specs.Views.{has_state, noted_lower, noted_upper, seen_lower, seen_upper}
 use Rattle.word_view.specs.Laws.{HasMore}
@@ -43,7 +45,7 @@ module _ (g : Ground) (v w : View) where
     pub readings : AllZip (λ c r. IsReading g v w (next_state s c) r) f.action.choices f.readings
 
   pub record AreFound (s : State) (found : List Found) : Type 0 where
-    pub codes : map (λ (f : Found). f.code) found ≡ (ground_process g).choices s
+    pub codes : AreEnough g s (map (λ (f : Found). f.code) found)
     pub each : All (IsFound s) found
     pub loads : w.loads ≡ loads_in (flat_map (λ (f : Found). f.readings) found) ++ v.loads
 

@@ -2,7 +2,7 @@
 --     LeadsTo v s ids place c    the id in this place is that of the state to which c leads from s
 --     IsKeptAction v s ids a k   k has the cost of a in s, and from its first place on the ids of the states to which the choices of a lead
 --     IsKeptAt v s g ids code k  k is so the action of this code
---     AreKept v s g t row        the row has the open actions of s, in the order of their codes
+--     AreKept v s g t row        the row has open actions of s that are enough, in the order of their codes
 --     IsKeptState g v id t row   so it has those of the state of the id, which is no goal
 --     KeepsStates g v t          so it is with each id of which actions are kept
 --     IsKeeping g witness t      so it is by what the witness has noted, and without a witness nothing is kept

@@ -11,7 +11,6 @@ use Rattle.std.specs.Prelude.{◌≡◌, ℕ, ◌<◌, ◌≤◌, ◌/◌, min, 
 use Rattle.ground_model.specs.declared.action.GroundAction.{GroundAction}
 use Rattle.ground_model.specs.Packed.{State}
 use Rattle.ground_model.specs.Ground.{Ground}
-use Rattle.ground_model.specs.Steps.{ground_process}
 use Rattle.word_view.specs.declared.view.View.{View}
 use Rattle.word_view.specs.Views.{noted_lower, noted_upper}
 use Rattle.word_table.specs.Seen.{Board, Knowledge}
@@ -38,8 +37,7 @@ module _ (g : Ground) (v w : View) where
     pub den : 0 < l.mean.den
     pub chosen : List Step
     pub best : Best
-    pub is : (s : State) → AreKept v s g t row
-        → HasChosen g v w s ((ground_process g).choices s) chosen best
+    pub is : (s : State) (are : AreKept v s g t row) → HasChosen g v w s are.codes chosen best
     pub lower : l.mean.sum / l.mean.den ≡ best.lower
     pub word : l.word ≡ min first best.word
 

@@ -1,7 +1,7 @@
 -- What is known of an id once its state's open actions were read, and its own numbers are not yet narrowed.
 --     HasWeighed b k l id last lower word
---                                off goals: the open actions of the id's state were read between k and l; lower and word are the least
---                                over them and giving up, and last is the answer
+--                                off goals: open actions of the id's state that are enough were read between k and l; lower and word
+--                                are the least over them and giving up, and last is the answer
 --     RestsAt b k l id last      at a goal nothing was read
 --     WeighTells b k l id last best
 --                                the one or the other
@@ -13,6 +13,7 @@ use Rattle.std.specs.Prelude.{◌≡◌, ℕ, true, false, Option, Some, None, L
 use Rattle.ground_model.specs.Packed.{State}
 use Rattle.ground_model.specs.Invariant.{IsGroundProblem}
 use Rattle.ground_model.specs.Steps.{ground_process}
+use Rattle.distinct_actions.specs.Enough.{AreEnough}
 use Rattle.word_view.specs.Steps.{with_count, with_lower, with_upper}
 use Rattle.word_view.specs.Views.{knows}
 use Rattle.word_table.specs.Seen.{Board, Knowledge, knowledge, IsOf}
@@ -32,7 +33,7 @@ module _ (b : Board) (k l : Knowledge) (id : ℕ) where
     pub is : IsStateOf k.view l.view id state
     pub off_goal : (ground_process b.problem).goal state ≡ false
     pub found : List Found
-    pub codes : map (λ (f : Found). f.code) found ≡ (ground_process b.problem).choices state
+    pub codes : AreEnough b.problem state (map (λ (f : Found). f.code) found)
     pub each : All (IsReadAction b.problem k.view l.view state) found
     pub loads : l.view.loads
         ≡ loads_in (flat_map (λ (f : Found). f.readings) found) ++ k.view.loads

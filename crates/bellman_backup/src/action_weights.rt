@@ -1,12 +1,13 @@
 //! The weights of all actions, side by side.
 
-ghost use Rattle.std.specs.Prelude.{◌≡◌, ◌+◌, ◌<◌, ◌^◌, ◌++◌, Some, length, map, All, IfOk, OnOk};
+ghost use Rattle.std.specs.Prelude.{◌≡◌, ◌+◌, ◌<◌, ◌^◌, ◌++◌, Some, length, map, take, All, IfOk, OnOk};
 ghost use Rattle.std.specs.List.{slice_get};
 ghost use Rattle.bellman_backup.specs.Candidates.{choice_weights};
-ghost use Rattle.bellman_backup.specs.Odds.{Odds, odds_of, IsWithin, HasPlaced};
+ghost use Rattle.bellman_backup.specs.Odds.{Odds, odds_of, IsWithin, HavePlaced, HasPlaced};
 
 use crate::span::Span;
-use ground_model::{Choice, GroundAction, GroundProblem};
+use distinct_actions::DistinctActions;
+use ground_model::{Choice, GroundAction};
 use std::alloc::{AllocError, Global};
 use std::marker::Model;
 
@@ -69,15 +70,37 @@ fn place_weights(
     })
 }
 
+/// Where the weights of an action stand. Those of one that does the same as the action before stand where those of
+/// that action do, and its choices are not looked at.
+fn find_weights(
+    index: &DistinctActions<'_>,
+    code: u16,
+    action: &GroundAction,
+    spans: &[Span],
+    weights: &mut Vec<u64>,
+) -> Result<Span, AllocError>
+    requires coded { slice_get index.now.actions code ≡ Some action.now }
+    requires placed { HavePlaced (take code index.now.actions) spans.now weights.old.items }
+    requires room { length weights.old.items + length action.now.choices < 2 ^ 32 }
+    ensures { IfOk result (λ span. HasPlaced action.now span weights.old.items weights.new.items) }
+{
+    if index.repeats(code) {
+        if let Some(last) = spans.last() {
+            return Ok(*last);
+        }
+    }
+    place_weights(action, spans, weights)
+}
+
 impl ActionWeights {
-    /// The weights of a problem's actions. They are refused for want of memory alone.
-    pub(crate) fn new(alloc: Global, problem: &GroundProblem) -> Result<Self, AllocError>
-        ensures { IfOk result (λ weights. weights ≡ map odds_of problem.now.actions) }
+    /// The weights of the actions of an index's problem. They are refused for want of memory alone.
+    pub(crate) fn new(alloc: Global, index: &DistinctActions<'_>) -> Result<Self, AllocError>
+        ensures { IfOk result (λ weights. weights ≡ map odds_of index.now.actions) }
     {
         let mut spans = Vec::new(alloc);
         let mut weights = Vec::new(alloc);
-        for action in problem.actions() {
-            let span = place_weights(action, spans.as_slice(), &mut weights)?;
+        for (code, action) in index.problem().actions().iter().enumerate() {
+            let span = find_weights(index, code as u16, action, spans.as_slice(), &mut weights)?;
             spans.push(span)?;
         }
         Ok(ActionWeights { spans, weights })

@@ -11,11 +11,13 @@ use crate::recalling::weigh_kept;
 use crate::scratch::Scratch;
 use crate::settling::settle;
 use brtdp_trial::Backed;
+use distinct_actions::enough_laws;
 use word_table::{Pass, Words};
 
 /// Backs up an id: reads the intervals of all states that may follow its state, narrows its own by the
 /// least mean cost of an open action, or of giving up, and answers the action that is best by the lower
-/// numbers. At a goal it does nothing, and answers that code.
+/// numbers. At a goal it does nothing, and answers that code. Of open actions that differ in their names alone
+/// it reads one.
 ///
 /// Each number is read once, so the answer and its choices are those of one reading, whatever other passes do.
 /// The scratch keeps the ids of the states that may follow, as far as it has room. Where they are kept, no action
@@ -34,6 +36,7 @@ pub fn backup(words: &Words<'_>, pass: &mut Pass, id: u32, scratch: &mut Scratch
     ensures backed { HasBackedUp words.now.problem pass.old.view pass.new.view id scratch.new.last }
     ensures narrows { Narrows words.now.problem pass.old.view pass.new.view id }
 {
+    enough_laws();
     match weigh_kept(words, pass, id, scratch) {
         None => scratch.backed(),
         Some(best) => {

@@ -1,8 +1,8 @@
-//! All open actions of a state.
+//! The open actions of a state.
 
 ghost use Rattle.std.specs.Prelude.{◌≡◌, ◌<◌, length};
 ghost use Rattle.word_table.specs.Seen.{IsOf};
-ghost use Rattle.ground_model.specs.Steps.{ground_process};
+ghost use Rattle.distinct_actions.specs.Enough.{AreEnough};
 ghost use Rattle.bellman_backup.specs.Backups.{Keeps};
 ghost use Rattle.bellman_backup.specs.Choosing.{HasChosen, IsOpenState};
 
@@ -15,7 +15,7 @@ use ground_model::State;
 use state_interner::Hints;
 use word_table::{Pass, Words};
 
-/// Reads the open actions of a state, in the order of their codes, and chooses among them and giving up.
+/// Reads open actions of a state that are enough, in the order of their codes, and chooses among them and giving up.
 /// The choices of the action that is best by its lower mean are the chosen ones.
 pub(crate) fn best_of(
     words: &Words<'_>,
@@ -30,7 +30,7 @@ pub(crate) fn best_of(
     requires here { IsOf words.now pass.old }
     requires right { 0 < pass.old.view.rights }
     requires state { IsOpenState words.now.problem pass.old.view state.now }
-    requires codes { codes.now ≡ (ground_process words.now.problem).choices state.now }
+    requires codes { AreEnough words.now.problem state.now codes.now }
     requires fits { length next.old ≡ length state.now }
     ensures keeps { Keeps words.now pass.old pass.new }
     ensures fits { length next.new ≡ length state.now }

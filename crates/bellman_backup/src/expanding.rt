@@ -2,7 +2,7 @@
 
 ghost use Rattle.std.specs.Prelude.{◌≡◌, ◌<◌, ◌≤◌, Some, IsTrue, length};
 ghost use Rattle.std.specs.List.{slice_get};
-ghost use Rattle.ground_model.specs.Steps.{ground_process};
+ghost use Rattle.distinct_actions.specs.Enough.{AreEnough};
 ghost use Rattle.word_view.specs.Views.{IsReached};
 ghost use Rattle.word_table.specs.Seen.{IsOf};
 ghost use Rattle.kept_transitions.specs.Rows.{IsKept};
@@ -84,7 +84,7 @@ fn keep_action(
     })
 }
 
-/// Keeps the open actions of a state, in the order of their codes. False: one of them can not be kept.
+/// Keeps open actions of a state that are enough, in the order of their codes. False: one of them can not be kept.
 fn keep_actions(
     words: &Words<'_>,
     pass: &mut Pass,
@@ -97,7 +97,7 @@ fn keep_actions(
     requires here { IsOf words.now pass.old }
     requires right { 0 < pass.old.view.rights }
     requires state { IsOpenState words.now.problem pass.old.view state.now }
-    requires codes { codes.now ≡ (ground_process words.now.problem).choices state.now }
+    requires codes { AreEnough words.now.problem state.now codes.now }
     requires fits { length next.old ≡ length state.now }
     ensures keeps { Keeps words.now pass.old pass.new }
     ensures loads { pass.new.view.loads ≡ pass.old.view.loads }
@@ -116,8 +116,8 @@ fn keep_actions(
     true
 }
 
-/// Keeps the open actions of a state, and answers where they stand. Where they can not be kept, nothing is, and
-/// the answer is a row of nothing.
+/// Keeps open actions of a state that are enough, and answers where they stand. Where they can not be kept, nothing
+/// is, and the answer is a row of nothing.
 pub(crate) fn expand(
     words: &Words<'_>,
     pass: &mut Pass,
@@ -130,7 +130,7 @@ pub(crate) fn expand(
     requires here { IsOf words.now pass.old }
     requires right { 0 < pass.old.view.rights }
     requires state { IsOpenState words.now.problem pass.old.view state.now }
-    requires codes { codes.now ≡ (ground_process words.now.problem).choices state.now }
+    requires codes { AreEnough words.now.problem state.now codes.now }
     requires fits { length next.old ≡ length state.now }
     ensures keeps { Keeps words.now pass.old pass.new }
     ensures loads { pass.new.view.loads ≡ pass.old.view.loads }

@@ -14,21 +14,21 @@ use crate::expanding::expand;
 use crate::places::place_of;
 use crate::scratch::Scratch;
 use crate::states::read_state;
+use distinct_actions::{DistinctActions, DistinctCodes};
 use ground_model::State;
 use ground_step::is_goal;
 use kept_transitions::{Kept, KeptRow};
-use open_actions::{OpenActions, OpenCodes};
 use state_interner::Hints;
 use word_table::{Pass, Words, meet, split};
 
-/// Keeps the open actions of an id's state, and answers where they stand. The answer is a row of nothing at a
-/// goal, and where they can not be kept.
+/// Keeps open actions of an id's state that are enough, and answers where they stand. The answer is a row of nothing
+/// at a goal, and where they can not be kept.
 fn find_row(
     words: &Words<'_>,
     pass: &mut Pass,
     id: u32,
-    index: &OpenActions<'_>,
-    codes: &mut OpenCodes,
+    index: &DistinctActions<'_>,
+    codes: &mut DistinctCodes,
     state: &mut State,
     next: &mut State,
     hints: &mut Hints,

@@ -4,7 +4,6 @@ ghost use Rattle.std.specs.Prelude.{◌≡◌, ◌<◌, ◌≤◌, ◌+◌, Some
 ghost use Rattle.ground_model.specs.declared.limits.TheConstants.{MOST_PENALTY};
 ghost use Rattle.ground_model.specs.Packed.{State};
 ghost use Rattle.ground_model.specs.Invariant.{IsAction, IsGroundProblem};
-ghost use Rattle.ground_model.specs.Steps.{ground_process};
 ghost use Rattle.word_view.specs.Views.{knows};
 ghost use Rattle.word_view.specs.Laws.{HasMore};
 ghost use Rattle.word_table.specs.Seen.{IsOf};
@@ -69,8 +68,8 @@ fn read_kept(
     sums
 }
 
-/// Reads the open actions of a state by what is kept of them, in the order of their codes, and chooses among them
-/// and giving up.
+/// Reads the open actions that are kept of a state, in the order of their codes, and chooses among them and giving
+/// up.
 fn best_of_kept(
     words: &Words<'_>,
     pass: &mut Pass,
@@ -85,8 +84,9 @@ fn best_of_kept(
     requires weights { weights.now ≡ map odds_of words.now.problem.actions }
     ensures problem { IsGroundProblem words.now.problem }
     ensures keeps { Keeps words.now pass.old pass.new }
-    ensures best { let g = words.now.problem in (s : State) → AreKept pass.old.view s g kept.now row
-        → HasChosen g pass.old.view pass.new.view s ((ground_process g).choices s) chosen.new result }
+    ensures best { let g = words.now.problem
+        in (s : State) (are : AreKept pass.old.view s g kept.now row)
+        → HasChosen g pass.old.view pass.new.view s are.codes chosen.new result }
 {
     let problem = words.problem();
     let penalty = problem.penalty();

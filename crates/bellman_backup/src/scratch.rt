@@ -11,27 +11,27 @@ ghost use Rattle.bellman_backup.specs.Scratches.{new_scratch, with_witness};
 use crate::action_weights::ActionWeights;
 use crate::steps::Steps;
 use brtdp_trial::{Backed, GIVE_UP, Step};
+use distinct_actions::{DistinctActions, DistinctCodes};
 use ground_model::{GroundProblem, List, State};
 use kept_transitions::Kept;
-use open_actions::{OpenActions, OpenCodes};
 use state_interner::Hints;
 use std::alloc::{AllocError, Global};
 use std::marker::Model;
 use std::sync::Arc;
 use word_table::Pass;
 
-/// Buffers of the problem's greatest sizes, so that a backup takes no memory, the index of its actions and their
-/// weights, hints where states stand, and the transitions that are kept of states that were backed up, beside those
-/// that it may share with other scratches. Contracts see the problem, what the last backup answered, with the choices
-/// as they were read, and the witness.
+/// Buffers of the problem's greatest sizes, so that a backup takes no memory, the index of the actions that are
+/// enough, which it shares with other scratches, the weights of all actions, hints where states stand, and the
+/// transitions that are kept of states that were backed up, beside those that it may share. Contracts see the problem,
+/// what the last backup answered, with the choices as they were read, and the witness.
 ///
 /// What is kept rests on what was noted of the ids. The witness is a pass without rights that has noted it, so a
 /// pass that meets the witness has noted it too.
 #[derive(Drop)]
 pub struct Scratch<'p> {
-    pub(crate) index: OpenActions<'p>,
+    pub(crate) index: Arc<DistinctActions<'p>, Global>,
     pub(crate) weights: ActionWeights,
-    pub(crate) open_codes: OpenCodes,
+    pub(crate) open_codes: DistinctCodes,
     pub(crate) state: State,
     pub(crate) next: State,
     pub(crate) hints: Hints,
@@ -46,6 +46,7 @@ pub struct Scratch<'p> {
 
 impl<'p> Model for Scratch<'p> {
     ghost use Rattle.std.specs.Prelude.{◌≡◌, map};
+    ghost use Rattle.std.specs.Arc.{arc_value};
     ghost use Rattle.std.specs.Coded.{codes};
     ghost use Rattle.ground_model.specs.contracts.condition.GroundCondition as condition;
     ghost use Rattle.brtdp_trial.specs.Listed.{last_in};
@@ -58,11 +59,16 @@ impl<'p> Model for Scratch<'p> {
 
     ghost coded = { Prim.hlevel (codes, condition.the_row.coded) };
 
-    ghost view = { λ s. record { problem = s.index; last = last_in s.code s.den s.chosen; witness = s.witness } };
+    ghost view = { λ s. record {
+      problem = arc_value s.index;
+      last = last_in s.code s.den s.chosen;
+      witness = s.witness;
+    } };
 
-    ghost invariant = { λ s. AreBuffers s.index s.open_codes s.state s.next
-        × IsKeeping s.index s.witness s.kept × (s.weights ≡ map odds_of (s.index).actions)
-        × IsKeeping s.index s.witness (near_of s.near) };
+    ghost invariant = { λ s. AreBuffers (arc_value s.index) s.open_codes s.state s.next
+        × IsKeeping (arc_value s.index) s.witness s.kept
+        × (s.weights ≡ map odds_of (arc_value s.index).actions)
+        × IsKeeping (arc_value s.index) s.witness (near_of s.near) };
 }
 
 /// A state of the problem's length.
@@ -75,21 +81,22 @@ fn blank_state(alloc: Global, problem: &GroundProblem) -> Result<State, AllocErr
 }
 
 impl<'p> Scratch<'p> {
-    /// A scratch for backups over words of the problem. It may keep the transitions of so many ids, as far as there
-    /// is room for so many open actions and so many ids that follow. It is refused for want of memory alone.
+    /// A scratch for backups over words of the index's problem. It may keep the transitions of so many ids, as far as
+    /// there is room for so many open actions and so many ids that follow. It is refused for want of memory alone.
     pub fn make(
         alloc: Global,
-        problem: &'p GroundProblem,
+        index: &Arc<DistinctActions<'p>, Global>,
         ids: u32,
         actions: u32,
         followers: u32,
     ) -> Result<Self, AllocError>
-        ensures { IfOk result (λ scratch. scratch ≡ new_scratch problem.now) }
+        ensures { IfOk result (λ scratch. scratch ≡ new_scratch (arc_value index.now)) }
     {
+        let problem = index.problem();
         Ok(Scratch {
-            index: OpenActions::new(alloc, problem)?,
-            weights: ActionWeights::new(alloc, problem)?,
-            open_codes: OpenCodes::new(alloc, problem)?,
+            index: Arc::try_clone(index)?,
+            weights: ActionWeights::new(alloc, index)?,
+            open_codes: DistinctCodes::new(alloc, problem)?,
             state: blank_state(alloc, problem)?,
             next: blank_state(alloc, problem)?,
             hints: Hints::make(alloc, ids)?,

@@ -6,6 +6,7 @@ ghost use Rattle.bellman_backup.specs.Weighing.{CanSettle, IsNarrowed};
 
 use crate::best::Best;
 use bound_words::{raise, sink_upper};
+use distinct_actions::enough_laws;
 use word_table::{Pass, Words, load_count};
 
 /// Narrows the numbers of an id to the least that was read of its open actions, or of giving up.
@@ -15,6 +16,7 @@ pub(crate) fn settle(words: &Words<'_>, pass: &mut Pass, id: u32, best: &Best)
     ensures one { HasOneEach pass.old.view }
     ensures narrowed { IsNarrowed pass.old id best.now.lower best.now.word pass.new }
 {
+    enough_laws();
     // A look at the table tells that ids of one state are one id, so that what was seen of a state is what was
     // noted of its id.
     load_count(words, pass);

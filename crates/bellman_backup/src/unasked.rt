@@ -25,6 +25,7 @@ use crate::recalling::recall;
 use crate::scratch::Scratch;
 use crate::sums::Sums;
 use bound_words::{raise, sink_upper};
+use distinct_actions::enough_laws;
 use fixed_round::UpperWord;
 use ground_model::GroundAction;
 use kept_transitions::{Kept, KeptAction, KeptRow};
@@ -62,8 +63,8 @@ fn sum_kept(
     sums
 }
 
-/// The least numbers over the open actions of a state, read by what is kept of them, and over giving up. The
-/// least word is at most the first one.
+/// The least numbers over the open actions that are kept of a state, and over giving up. The least word is at most
+/// the first one.
 fn least_of_kept(
     words: &Words<'_>,
     pass: &mut Pass,
@@ -146,6 +147,7 @@ fn narrow_from(
     ensures raised { least.mean.sum / least.mean.den ≤ noted_lower pass.new.view id }
     ensures sunk { noted_upper pass.new.view id ≤ least.word }
 {
+    enough_laws();
     // A look at the table tells that ids of one state are one id, so that what was seen of a state is what was
     // noted of its id.
     load_count(words, pass);
@@ -165,6 +167,7 @@ pub fn narrow(words: &Words<'_>, pass: &mut Pass, id: u32, scratch: &mut Scratch
     ensures problem { scratch.new.problem ≡ scratch.old.problem }
     ensures narrows { Narrows words.now.problem pass.old.view pass.new.view id }
 {
+    enough_laws();
     let place = place_of(&scratch.near, &scratch.kept, id);
     if !place.row.is_kept() {
         backup(words, pass, id, scratch);

@@ -17,11 +17,11 @@ use Rattle.word_view.specs.declared.view.View.{View}
 use Rattle.word_view.specs.Views.{seen_lower, seen_upper}
 use Rattle.word_view.proofs.Seen.{has_state_more, more_is_later}
 use Rattle.word_table.specs.Seen.{Board, Knowledge}
-use Rattle.state_explorer.specs.declared.explored.Explored.{Explored}
-use Rattle.state_explorer.specs.Explored.{IsExplored}
 use Rattle.start_means.specs.Means.{seen_value, lower_mean, upper_mean}
 use Rattle.trial_workers.specs.declared.effort.Effort.{Effort}
 use Rattle.trial_workers.specs.declared.effort.Solved.{Solved}
+use Rattle.trial_workers.specs.declared.extent.Extent.{Extent}
+use Rattle.trial_workers.specs.Crews.{AreNear}
 use Rattle.trial_workers.proofs.Counting.{taken_at, starts_first}
 use Rattle.closing_bounds.specs.Closing.{closing_rows, HasStartsFirst, HasRowOf}
 use Rattle.closing_bounds.specs.Ends.{closing_low, closing_high}
@@ -47,11 +47,11 @@ module _ (g : Ground) (f h : State → ℕ) (each : (s : State) → f s ≤ h s)
 -- ---- the pass of worker 0, and passes that have noted more
 
 pub first_has_solved : FirstHasSolved
-first_has_solved b effort explored [] ns solved k has made first = absurd has
-first_has_solved b effort explored (o ∷ os) [] solved k has made first = absurd made.stayed
-first_has_solved b effort explored (o ∷ os) (n ∷ ns) solved k has made first =
+first_has_solved b effort states x [] ns solved k has made first = absurd has
+first_has_solved b effort states x (o ∷ os) [] solved k has made first = absurd made.stayed
+first_has_solved b effort states x (o ∷ os) (n ∷ ns) solved k has made first =
     let same : k ≡ n.pass = first n refl in
-    subst (HasSolved b effort explored solved) (sym same) record {
+    subst (HasSolved b effort states x solved) (sym same) record {
       here = (made.crew.each 0 n (omega arith)).fit.here;
       has = λ id s at. let had = has id s at in
           (made.stayed.0.noted.known id had.0, has_state_more o.pass.view n.pass.view made.stayed.0.noted id s had.1);
@@ -63,7 +63,7 @@ first_has_solved b effort explored (o ∷ os) (n ∷ ns) solved k has made first
     }
 
 pub later_has_solved : LaterHasSolved
-later_has_solved b effort explored solved k l has here more =
+later_has_solved b effort states x solved k l has here more =
     let later = more_is_later k.view l.view more in record {
       here = here;
       has = λ id s at. let had = has.has id s at in (later.known id had.0, later.states id s had.1);
@@ -84,17 +84,17 @@ module _ (b : Board) (v : View) (image : Image) (ended : IsEnded b v image) wher
   high_is_narrower : closing_high b.problem image.rows ≤ upper_mean b.problem v
   high_is_narrower = ceilings_rise b.problem (high (ground_process b.problem) same_state (closing_rows image.rows)) (seen_value v) ended.upper
 
-module _ (b : Board) (sizes : Sizes) (effort : Effort) (explored : Explored) (listed : IsExplored b.problem sizes.sweep_states explored)
-    (ids : b.layout.ids ≡ sizes.states + sizes.workers) (rights : b.most ≡ sizes.workers)
-    (solved : Solved) (k : Knowledge) (has : HasSolved b effort explored solved k) (image : Image) (ended : IsEnded b k.view image) where
+module _ (b : Board) (sizes : Sizes) (effort : Effort) (states : List State) (extent : Extent) (listed : AreNear b.problem sizes.sweep_states states extent)
+    (ids : b.layout.ids ≤ sizes.states + sizes.workers) (rights : b.most ≡ sizes.workers)
+    (solved : Solved) (k : Knowledge) (has : HasSolved b effort states extent solved k) (image : Image) (ended : IsEnded b k.view image) where
   starts_have_rows : HasStartsFirst b.problem image.rows
-  starts_have_rows place x there = ended.first explored.states has.has place x.state
+  starts_have_rows place x there = ended.first states has.has place x.state
       (subst (λ l. slice_get l place ≡ Some x.state) (sym listed.first.1) (starts_first b.problem.starts listed.first.0 place x there))
 
-  near_have_rows : (t : State) → IsNear (ground_process b.problem) (ground_starts b.problem) explored.depth t → HasRowOf image.rows t
+  near_have_rows : (t : State) → IsNear (ground_process b.problem) (ground_starts b.problem) extent.depth t → HasRowOf image.rows t
   near_have_rows t near =
-      let place = place_of (take explored.swept explored.states) t ((listed.are t).1 near) in
-      let row = ended.first explored.states has.has place.0 t (taken_at explored.states explored.swept place.0 t place.1).1 in
+      let place = place_of (take extent.swept states) t ((listed.are t).1 near) in
+      let row = ended.first states has.has place.0 t (taken_at states extent.swept place.0 t place.1).1 in
       record { row = row.row; held = slice_get-contains image.rows place.0 row.row row.here; of_state = row.of_state }
 
   is_solved : IsSolved b.problem sizes effort (closing_of image solved)
@@ -106,7 +106,7 @@ module _ (b : Board) (sizes : Sizes) (effort : Effort) (explored : Explored) (li
       record {
         closing = ended.closing;
         starts = starts_have_rows;
-        depth = explored.depth;
+        depth = extent.depth;
         fits = listed.fits;
         near = near_have_rows;
         few = ended.few;
@@ -121,5 +121,6 @@ module _ (b : Board) (sizes : Sizes) (effort : Effort) (explored : Explored) (li
 pub closing_is_solved : ClosingIsSolved
 closing_is_solved g sizes effort o solved k image opened has ended =
     subst (λ (p : Ground). IsSolved p sizes effort (closing_of image solved)) opened.problem
-    (is_solved o.words sizes effort o.explored (subst (λ (p : Ground). IsExplored p sizes.sweep_states o.explored) (sym opened.problem) opened.listed)
-    opened.ids opened.rights.0 solved k has image ended)
+    (is_solved o.words sizes effort opened.states o.extent
+    (subst (λ (p : Ground). AreNear p sizes.sweep_states opened.states o.extent) (sym opened.problem) opened.listed)
+    opened.room opened.rights.0 solved k has image ended)

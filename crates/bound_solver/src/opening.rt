@@ -10,16 +10,17 @@ ghost use Rattle.bellman_backup.specs.Kept.{KeepsStates};
 ghost use Rattle.trial_workers.specs.Workers.{Stays, HasListed};
 ghost use Rattle.trial_workers.specs.Crews.{IsCrewOf, FirstHas};
 ghost use Rattle.trial_workers.specs.declared.crew.TheConstants.{MOST_WORKERS};
-ghost use Rattle.bound_solver.specs.Opened.{AreSizes, IsOpened};
+ghost use Rattle.bound_solver.specs.Opened.{AreSizes, IsOpened, room_for};
 
 use crate::sizes::Sizes;
+use distinct_actions::DistinctActions;
 use ground_model::{GroundProblem, State};
 use kept_transitions::Kept;
 use state_explorer::{Exploration, Explored, explore};
 use state_interner::sink_goal;
 use std::alloc::{AllocError, Global};
 use std::sync::Arc;
-use trial_workers::Crew;
+use trial_workers::{Crew, Extent};
 use word_table::{Pass, Words, make};
 
 /// What a search has before its first round.
@@ -27,10 +28,12 @@ use word_table::{Pass, Words, make};
 pub struct Opening<'p> {
     /// The table.
     pub words: Words<'p>,
-    /// A pass over it that has the listed states, each with its place as its id, and all the claim rights.
+    /// A pass over it that has the states near the starts, each with its place as its id, and all the claim rights.
     pub pass: Pass,
-    /// The states near the starts.
-    pub explored: Explored,
+    /// How far these states go.
+    pub extent: Extent,
+    /// The problem's actions, by an index.
+    pub index: Arc<DistinctActions<'p>, Global>,
     /// Their transitions, as far as there was room for them, which rest on what the pass has noted.
     pub near: Arc<Kept, Global>,
 }
@@ -49,8 +52,22 @@ fn sink_goals(words: &Words<'_>, pass: &mut Pass, states: &[State])
     }
 }
 
-/// Lists the states near the starts with their transitions, and makes a table of them with an id for each of `states`
-/// and for each worker, and a claim right for each worker. It is refused for want of memory alone.
+/// For how many states there is an id: for those that are listed, where these are all that can be reached, and else
+/// for all that the table has room for in any case.
+fn room_for(explored: &Explored, states: u32) -> u32
+    requires few { length explored.now.states ≤ states }
+    ensures { let listed = length explored.now.states
+        in result ≡ room_for explored.now.depth listed states }
+{
+    match explored.depth {
+        None => explored.states.as_slice().len() as u32,
+        Some(_) => states,
+    }
+}
+
+/// Lists the states near the starts with their transitions, and makes a table of them with a claim right for each
+/// worker. It has an id for each worker, and one for each of `states`, or for each state that can be reached, where
+/// all of them are listed. It is refused for want of memory alone.
 ///
 /// Rounds are made over the table by a crew that has the pass. Before the crew is made another pass may be split off
 /// without rights (`word_table`'s `split`), for whoever looks on, and be joined behind the last round.
@@ -62,30 +79,37 @@ pub fn open<'p>(
     requires { AreSizes sizes.now }
     ensures { IfOk result (IsOpened problem.now sizes.now) }
 {
+    let index = Arc::new(alloc, DistinctActions::new(alloc, problem)?)?;
     let Exploration {
         explored,
         transitions,
-    } = explore(alloc, problem, sizes.sweep_states)?;
+    } = explore(alloc, &index, sizes.sweep_states)?;
     let near = Arc::new(alloc, transitions)?;
-    let ids = sizes.states + sizes.workers;
+    let ids = room_for(&explored, sizes.states) + sizes.workers;
     let states = explored.states.as_slice();
     let (words, mut pass) = make(alloc, problem, ids, sizes.workers, states)?;
     // What is kept of a state that leads to a goal tells that the goal's word is noted.
     sink_goals(&words, &mut pass, states);
+    // The list ends here: the table has the states.
     Ok(Opening {
         words,
         pass,
-        explored,
+        extent: Extent {
+            swept: explored.swept,
+            depth: explored.depth,
+        },
+        index,
         near,
     })
 }
 
-/// A crew of so many workers that has the pass, for trials of at most `depth` turns. The workers share the transitions
-/// `near`. It is refused for want of memory alone, and then the pass ends.
+/// A crew of so many workers that has the pass, for trials of at most `depth` turns. The workers share the index and
+/// the transitions `near`. It is refused for want of memory alone, and then the pass ends.
 pub fn make_crew<'p>(
     alloc: Global,
     words: &Words<'p>,
     pass: Pass,
+    index: &Arc<DistinctActions<'p>, Global>,
     near: &Arc<Kept, Global>,
     workers: u32,
     depth: u32,
@@ -93,13 +117,14 @@ pub fn make_crew<'p>(
     requires here { IsOf words.now pass }
     requires free { pass.view.spare ≡ None }
     requires rights { pass.view.rights ≡ workers }
+    requires index { arc_value index.now ≡ words.now.problem }
     requires near { KeepsStates words.now.problem pass.view (arc_value near.now) }
     requires workers { (1 ≤ workers) × (workers ≤ MOST_WORKERS) }
     ensures crew { IfOk result (IsCrewOf words.now depth) }
     ensures has { (states : List State) → HasListed states pass.view
         → IfOk result (FirstHas states) }
 {
-    let Ok(crew) = Crew::make(alloc, words, pass, near, workers, depth) else {
+    let Ok(crew) = Crew::make(alloc, words, pass, index, near, workers, depth) else {
         return Err(AllocError);
     };
     Ok(crew)

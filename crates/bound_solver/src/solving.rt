@@ -34,13 +34,21 @@ pub fn solve<R: Threads + Sync, G: Gate>(
     let Opening {
         words,
         pass,
-        explored,
+        extent,
+        index,
         near,
     } = open(alloc, problem, sizes)?;
-    let mut crew = make_crew(alloc, &words, pass, &near, sizes.workers, effort.depth)?;
-    let solved = solve_words(rt, &words, &mut crew, &explored, effort, gate);
-    // The list takes as much memory as the states that are handed out; the transitions end with the crew.
-    drop(explored);
+    let mut crew = make_crew(
+        alloc,
+        &words,
+        pass,
+        &index,
+        &near,
+        sizes.workers,
+        effort.depth,
+    )?;
+    let solved = solve_words(rt, &words, &mut crew, &extent, effort, gate);
+    // The transitions end with the crew, before the states are handed out.
     drop(near);
     let image = finish(alloc, words, crew.dismiss())?;
     Ok(Closing {

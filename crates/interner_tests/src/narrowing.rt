@@ -5,8 +5,10 @@ ghost use Rattle.interner_tests.specs.Steps.{CanWalk, IsAtSet, KeepsSets};
 
 use bellman_backup::{Scratch, backup};
 use bound_words::{Interval, interval, raise, sink_upper};
+use distinct_actions::DistinctActions;
 use fixed_round::UpperWord;
 use std::alloc::{AllocError, Global};
+use std::sync::Arc;
 use word_table::{Pass, Words, load_lower, load_upper, max_lower, meet, min_upper, split};
 
 /// A pass that knows and has seen the same, without a claim right.
@@ -93,7 +95,8 @@ pub(crate) fn back_up(
     requires set { IsAtSet words.now pass.old id }
     ensures { KeepsSets words.now pass.old pass.new }
 {
-    let mut scratch = Scratch::make(alloc, words.problem(), words.ids(), 100, 100)?;
+    let index = Arc::new(alloc, DistinctActions::new(alloc, words.problem())?)?;
+    let mut scratch = Scratch::make(alloc, &index, words.ids(), 100, 100)?;
     backup(words, pass, id, &mut scratch);
     Ok(())
 }

@@ -7,7 +7,6 @@ use Rattle.ground_model.specs.declared.action.GroundAction.{GroundAction}
 use Rattle.ground_model.specs.Packed.{State}
 use Rattle.ground_model.specs.Choices.{next_state}
 use Rattle.ground_model.specs.Ground.{Ground}
-use Rattle.ground_model.specs.Steps.{ground_process}
 use Rattle.kept_transitions.specs.declared.kept_action.KeptAction.{KeptAction}
 use Rattle.kept_transitions.specs.declared.kept_row.KeptRow.{KeptRow}
 use Rattle.kept_transitions.specs.Rows.{Transitions, IsKept, untried, never, new_kept}
@@ -39,13 +38,15 @@ module _ (R T : State → ℕ → Type 0) (same : (s : State) (id : ℕ) → R s
 
   pub are_kept_still : (g : Ground) (t u : Transitions) (row : KeptRow) → HasGrown t u → (s : State) → AreKept R s g t row → AreKept T s g u row
   are_kept_still g t u row grown s is = record {
+    codes = is.codes;
+    enough = is.enough;
     count = is.count;
     each = λ i below. let e = is.each i below in (
       e.0,
       subst (λ (xs : List KeptAction). slice_get xs (row.first + i) ≡ Some e.0) (sym grown.actions)
           (slice_get_more t.actions grown.more_actions (row.first + i) e.0 e.1),
-      subst (λ (xs : List ℕ). IsKeptAt T s g xs (get_or ((ground_process g).choices s) i 0) e.0) (sym grown.ids)
-          (at_still s t.ids grown.more_ids g (get_or ((ground_process g).choices s) i 0) e.0 e.2),
+      subst (λ (xs : List ℕ). IsKeptAt T s g xs (get_or is.codes i 0) e.0) (sym grown.ids)
+          (at_still s t.ids grown.more_ids g (get_or is.codes i 0) e.0 e.2),
     );
   }
 

@@ -2,7 +2,7 @@
 --     cost_of_all s cs           the sum over the choices of weight times cost in the state s
 --     IsKeptAction R s ids a k   k has that sum, and from its first place on the ids of the states to which the choices of a lead from s
 --     IsKeptAt R s g ids code k  k is so the action of this code
---     AreKept R s g t row        the row has the open actions of s, in the order of their codes
+--     AreKept R s g t row        the row has open actions of s that are enough, in the order of their codes
 --     IsKeptState R g id t row   so it has those of the state of the id, which is no goal
 --     AreKeptStates R g t        so it is with each id of which actions are kept
 --     IsPlaceOf states s id      the id of a state is its place in a list
@@ -16,6 +16,7 @@ use Rattle.ground_model.specs.Packed.{State, has_bit}
 use Rattle.ground_model.specs.Choices.{cost_of, next_state}
 use Rattle.ground_model.specs.Ground.{Ground}
 use Rattle.ground_model.specs.Steps.{ground_process}
+use Rattle.distinct_actions.specs.Enough.{AreEnough}
 use Rattle.kept_transitions.specs.declared.kept_action.KeptAction.{KeptAction}
 use Rattle.kept_transitions.specs.declared.kept_row.KeptRow.{KeptRow}
 use Rattle.kept_transitions.specs.Rows.{Transitions, IsKept, row_of}
@@ -41,10 +42,12 @@ module _ (R : State → ℕ → Type 0) where
         pub kept : IsKeptAction ids action k
 
       pub record AreKept (t : Transitions) (row : KeptRow) : Type 0 where
-        pub count : row.past ≡ row.first + length ((ground_process g).choices s)
-        pub each : (i : ℕ) → i < length ((ground_process g).choices s) → (k : KeptAction)
+        pub codes : List ℕ
+        pub enough : AreEnough g s codes
+        pub count : row.past ≡ row.first + length codes
+        pub each : (i : ℕ) → i < length codes → (k : KeptAction)
             × (slice_get t.actions (row.first + i) ≡ Some k)
-            × IsKeptAt t.ids (get_or ((ground_process g).choices s) i 0) k
+            × IsKeptAt t.ids (get_or codes i 0) k
 
   pub record IsKeptState (g : Ground) (id : ℕ) (t : Transitions) (row : KeptRow) : Type 0 where
     pub state : State

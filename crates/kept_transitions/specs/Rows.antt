@@ -1,6 +1,6 @@
 -- Kept transitions, as lists.
 --     Transitions                the rows of ids, the actions, and the ids that follow
---     IsKept row                 the open actions of an id are kept: they stand from the first place up to below the past one
+--     IsKept row                 open actions of an id are kept: they stand from the first place up to below the past one
 --     new_kept n                 nothing is kept yet, of n ids
 --     row_of t id                the row of an id
 --     with_row t id row          t with another row of the id, if it has one

@@ -17,7 +17,7 @@ const LEAST_KINDS: u32 = 1 << 16;
 /// For so many actions there is room for one kind more.
 const ACTIONS_OF_A_KIND: u32 = 4;
 
-/// The open actions of states with the ids of the states that follow, by id. All memory is taken by `make`.
+/// Open actions of states with the ids of the states that follow, by id. All memory is taken by `make`.
 /// Contracts see the rows of the ids, the actions, and the ids that follow.
 #[derive(Drop)]
 pub struct Kept {
@@ -54,7 +54,7 @@ impl Kept {
         })
     }
 
-    /// Where the open actions of an id stand. Nothing is kept of an id that the arena was not made for.
+    /// Where the kept actions of an id stand. Nothing is kept of an id that the arena was not made for.
     pub fn row(&self, id: u32) -> KeptRow
         ensures { result ≡ row_of self.now id }
     {

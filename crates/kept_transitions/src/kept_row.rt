@@ -1,9 +1,9 @@
-//! Where the open actions of an id stand.
+//! Where the kept actions of an id stand.
 
 ghost use Rattle.std.specs.Prelude.{◌≡◌, ◌≤◌, ◌↔◌, IsTrue};
 ghost use Rattle.kept_transitions.specs.Rows.{IsKept, untried};
 
-/// Where the open actions of an id stand: from `first` up to below `past`. An id of which nothing is kept has a
+/// Where the kept actions of an id stand: from `first` up to below `past`. An id of which nothing is kept has a
 /// row whose first place is behind its past one.
 #[derive(Clone, Copy, Drop)]
 pub struct KeptRow {
@@ -20,7 +20,7 @@ impl KeptRow {
     /// The row of an id of which nothing is to be kept.
     pub const NEVER: KeptRow = KeptRow { first: 2, past: 0 };
 
-    /// Whether the open actions of the id are kept.
+    /// Whether open actions of the id are kept.
     pub fn is_kept(self) -> bool
         ensures { IsTrue result ↔ IsKept self }
     {

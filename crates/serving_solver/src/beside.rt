@@ -2,7 +2,7 @@
 
 ghost use Rattle.std.specs.Prelude.{◌≤◌};
 ghost use Rattle.word_table.specs.Seen.{IsOf};
-ghost use Rattle.trial_workers.specs.Crews.{IsCrewOf, FirstHas, IsListed};
+ghost use Rattle.trial_workers.specs.Crews.{IsCrewOf, IsNear};
 ghost use Rattle.bound_solver.specs.Rounds.{HasMadeRounds};
 ghost use Rattle.policy_server.specs.Parts.{IsBufferOf};
 ghost use Rattle.serving_solver.specs.Served.{streams};
@@ -11,7 +11,7 @@ ghost use Rattle.serving_solver.specs.Beside.{HasRun};
 use policy_server::{QueryBuffer, Served};
 use shelf_io::{Gate, Sink, Source};
 use std::thread::{Threads, join_mut};
-use trial_workers::{Crew, Effort, Explored, Solved, solve_words};
+use trial_workers::{Crew, Effort, Extent, Solved, solve_words};
 use word_table::{Pass, Words};
 
 /// Makes the rounds of a crew, while a server answers queries by a pass of its own. The rounds go to another thread
@@ -20,7 +20,7 @@ pub(crate) fn solve_beside<R: Threads + Sync, I: Source, O: Sink, G: Gate>(
     rt: &R,
     words: &Words<'_>,
     crew: &mut Crew<'_>,
-    explored: &Explored,
+    extent: &Extent,
     effort: &Effort,
     gate: &G,
     source: &mut I,
@@ -30,11 +30,10 @@ pub(crate) fn solve_beside<R: Threads + Sync, I: Source, O: Sink, G: Gate>(
 ) -> (Solved, Served)
     requires crew { IsCrewOf words.now effort.now.depth crew.old }
     requires deep { 1 ≤ effort.now.depth }
-    requires explored { IsListed words.now.problem explored.now }
-    requires has { FirstHas explored.now.states crew.old }
+    requires near { IsNear words.now.problem extent.now crew.old }
     requires here { IsOf words.now pass.old }
     requires buffer { IsBufferOf words.now.problem buffer.old }
-    ensures made { HasMadeRounds words.now effort.now explored.now crew.old crew.new result.0 }
+    ensures made { HasMadeRounds words.now effort.now extent.now crew.old crew.new result.0 }
     ensures ran { let shown = streams I.left I.ends I.faults O.taken O.faults
         in let from = shown source.old sink.old in let to = shown source.new sink.new
         in HasRun words.now pass.old pass.new from to result.1 }
@@ -44,11 +43,10 @@ pub(crate) fn solve_beside<R: Threads + Sync, I: Source, O: Sink, G: Gate>(
         &mut || -> Solved
             requires { IsCrewOf words.now effort.now.depth crew.now
                 × (1 ≤ effort.now.depth)
-                × IsListed words.now.problem explored.now
-                × FirstHas explored.now.states crew.now }
-            ensures { HasMadeRounds words.entry.now effort.entry.now explored.entry.now
+                × IsNear words.now.problem extent.now crew.now }
+            ensures { HasMadeRounds words.entry.now effort.entry.now extent.entry.now
                 crew.entry.now crew.exit.now result }
-        { solve_words(rt, words, crew, explored, effort, gate) },
+        { solve_words(rt, words, crew, extent, effort, gate) },
         &mut || -> Served
             requires { IsOf words.now pass.now × IsBufferOf words.now.problem buffer.now }
             ensures { let shown = streams I.left I.ends I.faults O.taken O.faults

@@ -46,18 +46,27 @@ pub fn serve<R: Threads + Sync, I: Source, O: Sink, G: Gate>(
     let Opening {
         words,
         mut pass,
-        explored,
+        extent,
+        index,
         near,
     } = open(alloc, problem, sizes)?;
     let mut buffer = QueryBuffer::make(alloc, problem)?;
     // The server's pass has no rights, so that it can claim no id.
     let mut looking = split(&words, &mut pass, 0);
-    let mut crew = make_crew(alloc, &words, pass, &near, sizes.workers, effort.depth)?;
+    let mut crew = make_crew(
+        alloc,
+        &words,
+        pass,
+        &index,
+        &near,
+        sizes.workers,
+        effort.depth,
+    )?;
     let (solved, served) = solve_beside(
         rt,
         &words,
         &mut crew,
-        &explored,
+        &extent,
         effort,
         gate,
         source,
@@ -65,8 +74,7 @@ pub fn serve<R: Threads + Sync, I: Source, O: Sink, G: Gate>(
         &mut looking,
         &mut buffer,
     );
-    // The list takes as much memory as the states that are handed out; the transitions end with the crew.
-    drop(explored);
+    // The transitions end with the crew, before the states are handed out.
     drop(near);
     let mut pass = crew.dismiss();
     // What the server has seen is kept, so that nothing is wider in the end than a line that told of it.

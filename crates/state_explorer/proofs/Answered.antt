@@ -12,7 +12,8 @@ use Rattle.state_explorer.specs.declared.exploration.Exploration.{Exploration}
 use Rattle.state_explorer.specs.declared.front.Front.{Front}
 use Rattle.state_explorer.specs.Explored.{AreLevels, IsExploration, IsAnswer}
 use Rattle.state_explorer.proofs.Insides.{near_has_length, near_is_short}
-use Rattle.state_explorer.proofs.Levels.{Exploring, reaches, deeper}
+use Rattle.state_explorer.specs.Exploring.{Exploring}
+use Rattle.state_explorer.proofs.ListedLevels.{reaches, deeper}
 
 pub if_ok : {A E : Type 0} (r : Result A E) (P Q : A → Type 0) → ((x : A) → P x → Q x) → IfOk r P → IfOk r Q
 if_ok (Ok x) P Q f h = f x h

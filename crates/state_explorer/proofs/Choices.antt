@@ -1,6 +1,6 @@
--- What the choices of an action lead to, and which codes are those of open actions.
-use Rattle.std.proofs.Common.{◌≡◌, ℕ, suc, zero, ◌<◌, ◌≤◌, Bool, true, false, cond, List, [], ◌∷◌, length, map, filter, refl, sym, ap, ◌∙◌, subst, arith, slice_index_or}
-use Rattle.std.specs.Prelude.{Contains, flat_map}
+-- What the choices of an action lead to, and which codes are those of actions.
+use Rattle.std.proofs.Common.{◌≡◌, ℕ, suc, zero, ◌<◌, ◌≤◌, Bool, true, cond, List, [], ◌∷◌, length, map, filter, refl, sym, ap, ◌∙◌, subst, arith, slice_index_or}
+use Rattle.std.specs.Prelude.{flat_map}
 use Rattle.std.specs.List.{All, range_with_len, slice_get}
 use Rattle.std.proofs.lemmas.List.Elements.{All-contains, All-get_or, Contains-get_or, filter_passes}
 use Rattle.std.proofs.lemmas.Option.{slice_get_read}
@@ -15,6 +15,7 @@ use Rattle.ground_model.specs.Ground.{Ground}
 use Rattle.ground_model.specs.Invariant.{IsAction, IsChoice, IsGroundProblem}
 use Rattle.ground_model.specs.Steps.{den_of, is_open_at, is_open, outcome_of, step_at, ground_process}
 use Rattle.ground_step.proofs.Outcomes.{cost_within}
+use Rattle.distinct_actions.specs.Enough.{AreEnough}
 
 next_of_outcomes : (scale : ℕ) (s : State) (cs : List Choice) → map (λ (o : Outcome State). o.next) (map (outcome_of scale s) cs) ≡ map (next_state s) cs
 next_of_outcomes scale s [] = refl
@@ -33,13 +34,14 @@ module _ (g : Ground) where
       ap (λ o. map (λ (o : Outcome State). o.next) (step_at (den_of g.actions) o s)) (slice_get_read g.actions (length g.actions) k a refl within read)
       ∙ next_of_outcomes _ s a.choices
 
-  pub code_within : (s : State) (codes : List ℕ) (i : ℕ) → codes ≡ (ground_process g).choices s → i < length codes
-      → slice_index_or codes i 0 < length g.actions
-  code_within s codes i are within =
-      open_within g.actions (slice_index_or codes i 0) s
-      (All-contains (λ k. is_open g k s ≡ true) (filter (λ k. is_open g k s) (range_with_len 0 (length g.actions))) (slice_index_or codes i 0)
+  -- codes that are enough are codes of actions
+  pub codes_within : (s : State) (codes : List ℕ) → AreEnough g s codes → All (λ k. k < length g.actions) codes
+  codes_within s codes enough i d within =
+      let code : ℕ = slice_index_or codes i d in
+      open_within g.actions code s
+      (All-contains (λ k. is_open g k s ≡ true) (filter (λ k. is_open g k s) (range_with_len 0 (length g.actions))) code
       (filter_passes (λ k. is_open g k s) (range_with_len 0 (length g.actions)))
-      (subst (λ (l : List ℕ). Contains l (slice_index_or codes i 0)) are (Contains-get_or codes i 0 within)))
+      (enough.are_open code (Contains-get_or codes i d within)))
 
   -- an action that was read from the actions
   pub read_still : (actions : List GroundAction) (k : ℕ) (a : GroundAction) → actions ≡ g.actions → a ≡ slice_index_or actions k a
@@ -57,13 +59,6 @@ pub choice_costs : (n : ℕ) (a : GroundAction) → IsAction n a → (items : Li
 choice_costs n a is items are i c within read =
     cost_within n c
     (subst (IsChoice n) (sym read) (All-get_or (IsChoice n) items i c within (subst (All (IsChoice n)) (sym are) is.choices)))
-
--- off goals the successors are what the open actions lead to
-pub successors_off : (g : Ground) (s : State) (codes : List ℕ) → codes ≡ (ground_process g).choices s → (ground_process g).goal s ≡ false
-    → flat_map (λ k. nexts (ground_process g) k s) codes ≡ successors (ground_process g) s
-successors_off g s codes are off =
-    ap (flat_map (λ k. nexts (ground_process g) k s)) are
-    ∙ sym (ap (λ b. cond b [] (flat_map (λ k. nexts (ground_process g) k s) ((ground_process g).choices s))) off)
 
 pub successors_at : (g : Ground) (s : State) → (ground_process g).goal s ≡ true → [] ≡ successors (ground_process g) s
 successors_at g s on = sym (ap (λ b. cond b [] (flat_map (λ k. nexts (ground_process g) k s) ((ground_process g).choices s))) on)

@@ -1,6 +1,6 @@
 -- Lists that grow by what is found.
 use Rattle.std.proofs.Common.{◌≡◌, ℕ, ◌+◌, ◌≤◌, ◌<◌, ⊎_elim, List, [], ◌∷◌, ◌++◌, length, map, take, drop, sym, ap, ◌∙◌, subst, arith, append_assoc, slice_index_or}
-use Rattle.std.specs.Prelude.{Contains, flat_map}
+use Rattle.std.specs.Prelude.{Contains, flat_map, ◌↔◌}
 use Rattle.std.proofs.lemmas.List.{length-append, append-nil as append_nil, take_more, take-append-drop}
 use Rattle.std.proofs.lemmas.List.Elements.{Contains-append_left, Contains-append_right, Contains-append_cases}
 use Rattle.std.proofs.lemmas.Grind.{flat_map-append}
@@ -29,6 +29,16 @@ module _ {X : Type 0} (most : ℕ) where
         ⊎_elim (λ i. subst (λ l. Contains l x) (sym g.is) (Contains-append_left b g.more x (f.all (omega arith) x i))) (g.all few x)
         (Contains-append_cases found next x h);
     few = λ h. g.few (f.few h);
+  }
+
+  -- it is the same by any list that has what was found
+  pub grows_same : (found same a b : List X) → ((x : X) → Contains found x ↔ Contains same x) → Grows most found a b → Grows most same a b
+  grows_same found same a b alike f = record {
+    more = f.more;
+    is = f.is;
+    within = λ x h. (alike x).0 (f.within x h);
+    all = λ few x h. f.all few x ((alike x).1 h);
+    few = f.few;
   }
 
   -- where there are more than most, nothing more is asked

@@ -5,6 +5,6 @@ pub mod Distinct
 pub mod Growth
 pub mod Insertion
 pub mod Insides
-pub mod Levels
+pub mod ListedLevels
 pub mod Putting
 pub mod Rows

@@ -9,9 +9,10 @@ use native.Mathlib.Decide.{ℕ_discrete, dec_lt}
 use Rattle.ground_model.specs.Packed.{State}
 use Rattle.ground_model.specs.Ground.{Ground}
 use Rattle.ground_model.specs.Steps.{ground_process}
+use Rattle.distinct_actions.specs.Enough.{AreEnough}
 use Rattle.kept_transitions.specs.declared.kept_row.KeptRow.{KeptRow}
 use Rattle.kept_transitions.specs.Rows.{Transitions, IsKept, never, row_of, with_row}
-use Rattle.kept_transitions.specs.Meaning.{IsKeptAt, AreKept, IsKeptState, AreKeptStates, IsPlaceOf, HasGrown}
+use Rattle.kept_transitions.specs.Meaning.{AreKept, IsKeptState, AreKeptStates, IsPlaceOf, HasGrown}
 use Rattle.kept_transitions.proofs.Still.{slice_get_more, state_still}
 use Rattle.state_explorer.specs.declared.keeping.Keeping.{Keeping}
 use Rattle.state_explorer.specs.Found.{IsAdded}
@@ -64,7 +65,7 @@ module _ (R T : State → ℕ → Type 0) (same : (s : State) (id : ℕ) → R s
       state = of.state;
       is = of.is;
       off_goal = of.off_goal;
-      actions = record { count = of.actions.count; each = of.actions.each };
+      actions = record { codes = of.actions.codes; enough = of.actions.enough; count = of.actions.count; each = of.actions.each };
     }
 
     own_row : IsKept (row_of now id) → IsKeptState T g id now (row_of now id)
@@ -86,27 +87,25 @@ module _ (R T : State → ℕ → Type 0) (same : (s : State) (id : ℕ) → R s
         (λ other. other_row j other kept)
 
   row_is_kept : (s : State) (codes : List ℕ) (t u : Transitions) (first : ℕ) → HasActions T s g codes (length codes) t u
-      → codes ≡ (ground_process g).choices s → first ≡ length t.actions → AreKept T s g u (row_from first u)
-  row_is_kept s codes t u first have are first_is = record {
-    count = have.count ∙ (λ i. sym first_is i + length (are i));
-    each = λ j below. let e = have.each j (let n = ap (λ (cs : List ℕ). length cs) are in omega arith) in (
-      e.0,
-      subst (λ n. slice_get u.actions (n + j) ≡ Some e.0) (sym first_is) e.1,
-      subst (λ (cs : List ℕ). IsKeptAt T s g u.ids (get_or cs j 0) e.0) are e.2,
-    );
+      → AreEnough g s codes → first ≡ length t.actions → AreKept T s g u (row_from first u)
+  row_is_kept s codes t u first have enough first_is = record {
+    codes = codes;
+    enough = enough;
+    count = have.count ∙ ap (λ n. n + length codes) (sym first_is);
+    each = λ j below. let e = have.each j below in (e.0, subst (λ n. slice_get u.actions (n + j) ≡ Some e.0) (sym first_is) e.1, e.2);
   }
 
   -- what was put of a state is kept, or else nothing of it
   pub kept_at_end : (s : State) (place : ℕ) (codes : List ℕ) (k l m : Keeping) (first ids : ℕ) → T s place → (ground_process g).goal s ≡ false
-      → codes ≡ (ground_process g).choices s → AreKeptStates R g k.kept → first ≡ length k.kept.actions → ids ≡ length k.kept.ids
+      → AreEnough g s codes → AreKeptStates R g k.kept → first ≡ length k.kept.actions → ids ≡ length k.kept.ids
       → Puts (HasActions T s g codes (length codes)) k l
       → (l.whole ≡ true → m.kept ≡ with_row l.kept place (row_from first l.kept)) → (l.whole ≡ false → IsCutTo first ids l.kept m.kept)
       → AreKeptStates T g m.kept
-  kept_at_end s place codes k l m first ids here off codes_are are first_is ids_is puts whole cut =
+  kept_at_end s place codes k l m first ids here off enough are first_is ids_is puts whole cut =
       by_test l.whole (AreKeptStates T g m.kept)
       (λ on.
       let row = row_from first l.kept in
       let is : IsKeptState T g place l.kept row
-      = record { state = s; is = here; off_goal = off; actions = row_is_kept s codes k.kept l.kept first (puts.put on) codes_are first_is } in
+      = record { state = s; is = here; off_goal = off; actions = row_is_kept s codes k.kept l.kept first (puts.put on) enough first_is } in
       subst (AreKeptStates T g) (sym (whole on)) (kept_more l.kept place row (kept_still k.kept l.kept puts.grown are) is))
       (λ off_whole. kept_still k.kept m.kept (cut_is_grown k.kept l.kept m.kept first ids puts.grown first_is ids_is (cut off_whole)) are)

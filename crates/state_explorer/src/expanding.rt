@@ -1,6 +1,8 @@
-//! The expansion of a state: the states that its open actions lead to, and what is kept of that.
+//! The expansion of a state: the states that its open actions lead to, and what is kept of that. Actions that are
+//! enough lead to all of them.
 
 ghost use Rattle.std.specs.Prelude.{◌≡◌, ◌*◌, ◌<◌, ◌≤◌, ◌^◌, length, flat_map, OnOk};
+ghost use Rattle.std.specs.List.{All};
 ghost use Rattle.decision_process.specs.Levels.{nexts, successors};
 ghost use Rattle.ground_model.specs.Packed.{words_for};
 ghost use Rattle.ground_model.specs.Steps.{ground_process};
@@ -11,9 +13,9 @@ ghost use Rattle.state_explorer.specs.Kept.{Puts, HasAction, HasActions};
 use crate::keeping::Keeping;
 use crate::listing::Listing;
 use crate::scratch::Scratch;
+use distinct_actions::{DistinctActions, enough_laws};
 use ground_model::{GroundProblem, State};
 use ground_step::{apply, is_goal};
-use open_actions::OpenActions;
 use std::alloc::AllocError;
 
 /// Lists what the choices of the action with this code lead to, in their order, until more than `most` states are
@@ -65,7 +67,7 @@ fn add_actions(
     keeping: &mut Keeping,
     most: usize,
 ) -> Result<(), AllocError>
-    requires codes { codes.now ≡ (ground_process problem.now).choices state.now }
+    requires codes { All (λ k. k < length problem.now.actions) codes.now }
     requires fits { length next.old ≡ length state.now }
     requires room { length listing.old ≤ most }
     requires few { most < 2 ^ 32 }
@@ -88,9 +90,9 @@ fn add_actions(
 }
 
 /// Lists the successors of the state in a place, until more than `most` states are listed. Where all of them are,
-/// and there is room, its open actions are kept.
+/// and there is room, open actions that are enough are kept.
 pub(crate) fn expand(
-    index: &OpenActions<'_>,
+    index: &DistinctActions<'_>,
     place: u32,
     state: &State,
     scratch: &mut Scratch,
@@ -111,6 +113,7 @@ pub(crate) fn expand(
         in OnOk result (AreKeptStates places index.now keeping.new.kept) }
     ensures scratch { IsRoomFor index.now scratch.new }
 {
+    enough_laws();
     let problem = index.problem();
     if is_goal(problem, state) {
         return Ok(());

@@ -8,7 +8,7 @@ use kept_transitions::Kept;
 pub struct Exploration {
     /// The listed states.
     pub explored: Explored,
-    /// The open actions of states that were expanded, with the places of the states to which they lead. The id
-    /// of a state is its place among the listed ones.
+    /// Of states that were expanded, open actions that are enough, with the places of the states to which they
+    /// lead. The id of a state is its place among the listed ones.
     pub transitions: Kept,
 }

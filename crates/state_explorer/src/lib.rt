@@ -7,6 +7,7 @@ mod explored;
 mod exploring;
 mod front;
 mod keeping;
+mod levels;
 mod listing;
 mod scratch;
 

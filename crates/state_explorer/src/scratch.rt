@@ -3,8 +3,8 @@
 ghost use Rattle.std.specs.Prelude.{IfOk};
 ghost use Rattle.state_explorer.specs.Found.{IsRoomFor};
 
+use distinct_actions::DistinctCodes;
 use ground_model::{GroundProblem, List, State};
-use open_actions::OpenCodes;
 use std::alloc::{AllocError, Global};
 
 /// Room for the expansion of a state, which is made once for all states.
@@ -12,8 +12,8 @@ use std::alloc::{AllocError, Global};
 pub(crate) struct Scratch {
     /// A state of the problem's length.
     pub(crate) next: State,
-    /// Room for the codes of its actions.
-    pub(crate) codes: OpenCodes,
+    /// Room for the codes of its actions that are enough.
+    pub(crate) codes: DistinctCodes,
 }
 
 impl Scratch {
@@ -23,7 +23,7 @@ impl Scratch {
     {
         let words = problem.atoms().len().div_ceil(64).max(1);
         let words = vec![in alloc; 0u64; words]?;
-        let codes = OpenCodes::new(alloc, problem)?;
+        let codes = DistinctCodes::new(alloc, problem)?;
         Ok(Scratch {
             next: State::from_words(List::from_vec(words)),
             codes,

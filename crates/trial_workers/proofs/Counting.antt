@@ -20,10 +20,10 @@ use Rattle.word_view.specs.Views.{knows, seen_lower, seen_upper}
 use Rattle.word_view.specs.Laws.{HasMore}
 use Rattle.word_view.proofs.Seen.{more_is_later}
 use Rattle.word_table.specs.Seen.{Board, IsOf}
-use Rattle.state_explorer.specs.declared.explored.Explored.{Explored}
 use Rattle.bellman_backup.specs.Backups.{Narrows}
 use Rattle.bellman_backup.proofs.NextRead.{first_at_goal, first_off_goal, seen_within_first}
 use Rattle.start_means.specs.Means.{HasStarts, seen_value}
+use Rattle.trial_workers.specs.declared.extent.Extent.{Extent}
 use Rattle.trial_workers.specs.declared.parts.Division.{Division}
 use Rattle.trial_workers.specs.declared.worker.Worker.{Worker}
 use Rattle.trial_workers.specs.Workers.{HasListed}
@@ -61,12 +61,12 @@ starts_within : (xs : List Start) (more : List State) → length xs ≤ length (
 starts_within [] more = omega arith
 starts_within (x ∷ xs) more = let r = starts_within xs more in omega (arith, r)
 
-module _ (g : Ground) (explored : Explored) (listed : IsListed g explored) where
-  pub starts_are_had : (v : View) → HasListed explored.states v → HasStarts g v
+module _ (g : Ground) (states : List State) (x : Extent) (listed : IsListed g states x) where
+  pub starts_are_had : (v : View) → HasListed states v → HasStarts g v
   starts_are_had v has id x at =
       has id x.state (subst (λ l. slice_get l id ≡ Some x.state) (sym listed.2.first.1) (starts_first g.starts listed.2.first.0 id x at))
 
-  start_count : length g.starts ≤ length explored.states
+  start_count : length g.starts ≤ length states
   start_count =
       let e = ap (λ (l : List State). length l) listed.2.first.1 in let w = starts_within g.starts listed.2.first.0 in omega arith
 
@@ -75,10 +75,10 @@ module _ (g : Ground) (explored : Explored) (listed : IsListed g explored) where
   any_state (s ∷ l) zero below = (s, refl)
   any_state (s ∷ l) (suc i) below = any_state l i (omega arith)
 
-  known_below : (v : View) → HasListed explored.states v → (id : ℕ) → id < length explored.states → knows v id
-  known_below v has id below = let s = any_state explored.states id below in (has id s.0 s.1).0
+  known_below : (v : View) → HasListed states v → (id : ℕ) → id < length states → knows v id
+  known_below v has id below = let s = any_state states id below in (has id s.0 s.1).0
 
-  pub knows_all : (b : Board) (d : Division) (v : View) → b.problem ≡ g → d.swept ≡ explored.swept → HasListed explored.states v → KnowsAll b d v
+  pub knows_all : (b : Board) (d : Division) (v : View) → b.problem ≡ g → d.swept ≡ x.swept → HasListed states v → KnowsAll b d v
   knows_all b d v same swept has = record {
     starts = λ id below. known_below v has id (let c = start_count in let e = ap (λ (p : Ground). length p.starts) same in omega arith);
     ids = λ id below. known_below v has id (let w = listed.2.within in omega arith);
@@ -106,26 +106,26 @@ rounds_stay g depth r v w more has =
     let later = more_is_later v w more in
     narrower_has_rounds (ground_process g) (ground_starts g) depth r (seen_lower v) (seen_value v) (seen_lower w) (seen_value w) has later.lower (seen_value_falls v w later)
 
-module _ (g : Ground) (explored : Explored) (listed : IsListed g explored) where
-  swept_backed : (v w : View) → HasListed explored.states v → ((id : ℕ) → id < explored.swept → Narrows g v w id)
-      → (s : State) → Contains (take explored.swept explored.states) s → sweeps.IsBackedUp (ground_process g) (seen_lower v) (seen_value v) (seen_lower w) (seen_value w) s
+module _ (g : Ground) (states : List State) (x : Extent) (listed : IsListed g states x) where
+  swept_backed : (v w : View) → HasListed states v → ((id : ℕ) → id < x.swept → Narrows g v w id)
+      → (s : State) → Contains (take x.swept states) s → sweeps.IsBackedUp (ground_process g) (seen_lower v) (seen_value v) (seen_lower w) (seen_value w) s
   swept_backed v w has done s inside =
-      let there : slice_get (take explored.swept explored.states) inside.0 ≡ Some s = slice_get-get_or (take explored.swept explored.states) inside.0 s inside.1 ∙ ap Some inside.2 in
-      let at = taken_at explored.states explored.swept inside.0 s there in
+      let there : slice_get (take x.swept states) inside.0 ≡ Some s = slice_get-get_or (take x.swept states) inside.0 s inside.1 ∙ ap Some inside.2 in
+      let at = taken_at states x.swept inside.0 s there in
       let b = done inside.0 at.0 s (has inside.0 s at.1).1 in
       record { lower = b.lower; upper = b.upper }
 
-  pub view_goes_on : (v w : View) (r : ℕ) → v.problem ≡ g → HasListed explored.states v → ((id : ℕ) → id < explored.swept → Narrows g v w id)
-      → HasRoundsOf g explored.depth r v → HasRoundsOf g explored.depth (r + 1) w
+  pub view_goes_on : (v w : View) (r : ℕ) → v.problem ≡ g → HasListed states v → ((id : ℕ) → id < x.swept → Narrows g v w id)
+      → HasRoundsOf g x.depth r v → HasRoundsOf g x.depth (r + 1) w
   view_goes_on v w r same has done rounds =
       let one : suc r ≡ r + 1 = omega arith in
-      subst (λ n. HasRoundsOf g explored.depth n w) one
-      (round_goes_on (ground_process g) (ground_starts g) explored.depth (take explored.swept explored.states) listed.2.are r (seen_lower v) (seen_value v) (seen_lower w) (seen_value w)
+      subst (λ n. HasRoundsOf g x.depth n w) one
+      (round_goes_on (ground_process g) (ground_starts g) x.depth (take x.swept states) listed.2.are r (seen_lower v) (seen_value v) (seen_lower w) (seen_value w)
       (sees_first g v same) rounds (swept_backed v w has done))
 
-  pub crew_goes_on : (b : Board) (d : Division) (os ns : List Worker) → b.problem ≡ g → d.swept ≡ explored.swept → ((o : Worker) (rest : List Worker) → os ≡ o ∷ rest → IsOf b o.pass)
-      → FirstHas explored.states os → FirstNarrows b d.swept os ns
-      → (r : ℕ) → HaveRounds g explored.depth r os → HaveRounds g explored.depth (r + 1) ns
+  pub crew_goes_on : (b : Board) (d : Division) (os ns : List Worker) → b.problem ≡ g → d.swept ≡ x.swept → ((o : Worker) (rest : List Worker) → os ≡ o ∷ rest → IsOf b o.pass)
+      → FirstHas states os → FirstNarrows b d.swept os ns
+      → (r : ℕ) → HaveRounds g x.depth r os → HaveRounds g x.depth (r + 1) ns
   crew_goes_on b d [] ns same swept here has done r rounds = absurd has
   crew_goes_on b d (o ∷ os) [] same swept here has done r rounds = absurd done
   crew_goes_on b d (o ∷ os) (n ∷ ns) same swept here has done r rounds =

@@ -7,11 +7,11 @@ use Rattle.ground_model.specs.Steps.{ground_process, ground_starts}
 use Rattle.word_view.specs.Views.{seen_lower}
 use Rattle.word_view.proofs.Seen.{has_state_more}
 use Rattle.word_table.specs.Seen.{Board, Knowledge}
-use Rattle.state_explorer.specs.declared.explored.Explored.{Explored}
 use Rattle.start_means.specs.declared.means.Means.{Means}
 use Rattle.start_means.specs.Means.{seen_value}
 use Rattle.trial_workers.specs.declared.effort.Effort.{Effort}
 use Rattle.trial_workers.specs.declared.effort.Solved.{Solved}
+use Rattle.trial_workers.specs.declared.extent.Extent.{Extent}
 use Rattle.trial_workers.specs.declared.worker.Worker.{Worker}
 use Rattle.trial_workers.specs.Workers.{Stays, HasListed}
 use Rattle.trial_workers.specs.Crews.{IsCrewOf, FirstHas, IsListed, HaveStayed, HaveTrials, HasReadMeans, FirstReads}
@@ -57,12 +57,12 @@ begins_without b depth level (w ∷ ws) crew = no_rounds b.problem level w.pass.
 abbrev answer : ℕ → Means → Solved
 answer r m = record { rounds = r; lower = m.lower; upper = m.upper }
 
-module _ (b : Board) (explored : Explored) (listed : IsListed b.problem explored) (r : ℕ) (m : Means) where
-  reads_within : (os ns : List Worker) → FirstReads b os ns m → HaveRounds b.problem explored.depth r os → IsWithinPlain b.problem explored.depth (answer r m)
+module _ (b : Board) (states : List State) (x : Extent) (listed : IsListed b.problem states x) (r : ℕ) (m : Means) where
+  reads_within : (os ns : List Worker) → FirstReads b os ns m → HaveRounds b.problem x.depth r os → IsWithinPlain b.problem x.depth (answer r m)
   reads_within [] ns read rounds = absurd read
   reads_within (o ∷ os) [] read rounds = absurd read
   reads_within (o ∷ os) (n ∷ ns) read rounds =
-      let plain = means_have_rounds (ground_process b.problem) (ground_starts b.problem) explored.depth r b.problem.start_den (seen_lower o.pass.view) (seen_value o.pass.view)
+      let plain = means_have_rounds (ground_process b.problem) (ground_starts b.problem) x.depth r b.problem.start_den (seen_lower o.pass.view) (seen_value o.pass.view)
       listed.2.deep (let a = read.3.problem.starts_weights.den_above in omega arith) rounds in
       let means = read.3 in record {
         lower = (let a = plain.0 in let c = means.means.lower_since in omega arith);
@@ -81,45 +81,45 @@ reads_idle b gap m (o ∷ os) (n ∷ ns) read within = omega (arith, within, rea
 
 -- ---- after some rounds, and a reading behind them
 
-pub record Solving (b : Board) (e : Effort) (explored : Explored) (old now : List Worker) (r : ℕ) (m : Means) : Type 0 where
+pub record Solving (b : Board) (e : Effort) (states : List State) (x : Extent) (old now : List Worker) (r : ℕ) (m : Means) : Type 0 where
   pub crew : IsCrewOf b e.depth now
-  pub has : FirstHas explored.states now
+  pub has : FirstHas states now
   pub stayed : HaveStayed b old now
   pub trials : 0 < r → HaveTrials e (r - 1) now
-  pub rounds : HaveRounds b.problem explored.depth r now
-  pub plain : IsWithinPlain b.problem explored.depth (answer r m)
+  pub rounds : HaveRounds b.problem x.depth r now
+  pub plain : IsWithinPlain b.problem x.depth (answer r m)
   pub seen : FirstHasSeen b.problem (answer r m) now
   pub idle : FirstIsWithin b.problem e.gap old → (r ≡ 0) × (m.upper ≤ m.lower + e.gap)
 
-module _ (b : Board) (e : Effort) (explored : Explored) (listed : IsListed b.problem explored) where
-  pub solving_begins : (os ns : List Worker) (m : Means) → IsCrewOf b e.depth os → FirstHas explored.states os → FirstReads b os ns m → Solving b e explored os ns 0 m
+module _ (b : Board) (e : Effort) (states : List State) (x : Extent) (listed : IsListed b.problem states x) where
+  pub solving_begins : (os ns : List Worker) (m : Means) → IsCrewOf b e.depth os → FirstHas states os → FirstReads b os ns m → Solving b e states x os ns 0 m
   solving_begins os ns m crew has read =
       let stayed = reads_stay b m e.depth os ns crew read in
-      let none = begins_without b e.depth explored.depth os crew in record {
+      let none = begins_without b e.depth x.depth os crew in record {
         crew = reads_is_crew b m e.depth os ns crew read;
-        has = first_has_more b explored.states os ns stayed has;
+        has = first_has_more b states os ns stayed has;
         stayed = stayed;
         trials = λ some. absurd (omega arith);
-        rounds = rounds_have_stayed b b.problem explored.depth 0 os ns stayed none;
-        plain = reads_within b explored listed 0 m os ns read none;
-        seen = reads_seen b explored listed 0 m os ns read;
+        rounds = rounds_have_stayed b b.problem x.depth 0 os ns stayed none;
+        plain = reads_within b states x listed 0 m os ns read none;
+        seen = reads_seen b states x listed 0 m os ns read;
         idle = λ within. (refl, reads_idle b e.gap m os ns read within);
       }
 
-  pub solving_goes_on : (old now mid new : List Worker) (r : ℕ) (m m' : Means) → Solving b e explored old now r m → (m.upper ≤ m.lower + e.gap → ⊥) → IsCrewOf b e.depth mid → HaveStayed b now mid
-      → HaveTrials e r mid → ((n : ℕ) → HaveRounds b.problem explored.depth n now → HaveRounds b.problem explored.depth (n + 1) mid) → FirstReads b mid new m'
-      → Solving b e explored old new (r + 1) m'
+  pub solving_goes_on : (old now mid new : List Worker) (r : ℕ) (m m' : Means) → Solving b e states x old now r m → (m.upper ≤ m.lower + e.gap → ⊥) → IsCrewOf b e.depth mid → HaveStayed b now mid
+      → HaveTrials e r mid → ((n : ℕ) → HaveRounds b.problem x.depth n now → HaveRounds b.problem x.depth (n + 1) mid) → FirstReads b mid new m'
+      → Solving b e states x old new (r + 1) m'
   solving_goes_on old now mid new r m m' so wide crew stayed trials rounds read =
       let read_stayed = reads_stay b m' e.depth mid new crew read in
       let more = rounds r so.rounds in
       let last : r ≡ r + 1 - 1 = omega arith in record {
         crew = reads_is_crew b m' e.depth mid new crew read;
-        has = first_has_more b explored.states mid new read_stayed (first_has_more b explored.states now mid stayed so.has);
+        has = first_has_more b states mid new read_stayed (first_has_more b states now mid stayed so.has);
         stayed = stayed_again b old mid new (stayed_again b old now mid so.stayed stayed) read_stayed;
         trials = λ some. subst (λ n. HaveTrials e n new) last (reads_have_trials b m' e r mid new read trials);
-        rounds = rounds_have_stayed b b.problem explored.depth (r + 1) mid new read_stayed more;
-        plain = reads_within b explored listed (r + 1) m' mid new read more;
-        seen = reads_seen b explored listed (r + 1) m' mid new read;
+        rounds = rounds_have_stayed b b.problem x.depth (r + 1) mid new read_stayed more;
+        plain = reads_within b states x listed (r + 1) m' mid new read more;
+        seen = reads_seen b states x listed (r + 1) m' mid new read;
         idle = λ within. absurd (wide (so.idle within).1);
       }
 

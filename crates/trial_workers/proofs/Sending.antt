@@ -11,8 +11,8 @@ use Rattle.ground_model.proofs.condition.GroundCondition.TheLaws.TheKnot as cond
 use Rattle.ground_model.proofs.state.State.TheSendSync as state_crosses
 use Rattle.ground_model.proofs.start.Start.TheSendSync as start_crosses
 use Rattle.open_actions.proofs.entry_runs.EntryRuns.TheSendSync as runs_cross
-use Rattle.open_actions.proofs.open_codes.OpenCodes.TheSendSync as codes_cross
 use Rattle.open_actions.proofs.word_test.WordTest.TheSendSync as test_crosses
+use Rattle.distinct_actions.proofs.distinct_codes.DistinctCodes.TheSendSync as distinct_cross
 use Rattle.kept_transitions.proofs.kept.Kept.TheSendSync as kept_crosses
 use Rattle.bellman_backup.proofs.steps.Steps.TheSendSync as steps_cross
 use Rattle.brtdp_trial.proofs.path.Path.TheSendSync as path_crosses
@@ -25,6 +25,7 @@ use Rattle.ground_model.specs.contracts.action.GroundAction as action
 use Rattle.ground_model.specs.contracts.problem.GroundProblem as problem
 use Rattle.open_actions.specs.contracts.masked.Masked as masked
 use Rattle.open_actions.specs.contracts.open_actions.OpenActions as index
+use Rattle.distinct_actions.specs.contracts.distinct_actions.DistinctActions as distinct
 use Rattle.word_table.specs.contracts.words.Words as words
 use Rattle.bellman_backup.specs.contracts.scratch.Scratch as scratch
 use Rattle.trial_workers.specs.contracts.worker.Worker as worker
@@ -62,8 +63,20 @@ masked_send ℓ = search (sendable, crosses, list_crosses.the_send, test_crosses
 pub index_send : (ℓ : _) → IsSend (index.the_row ℓ)
 index_send ℓ = search (sendable, crosses, list_crosses.the_send, runs_cross.the_send, masked_send, problem_sync) depth 30
 
+pub masked_sync : (ℓ : _) → IsSync (masked.the_row ℓ)
+masked_sync ℓ = search (sendable, crosses, list_crosses.the_sync, test_crosses.the_sync, condition_row_sync) depth 30
+
+pub index_sync : (ℓ : _) → IsSync (index.the_row ℓ)
+index_sync ℓ = search (sendable, crosses, list_crosses.the_sync, runs_cross.the_sync, masked_sync, problem_sync) depth 30
+
+pub distinct_send : (ℓ : _) → IsSend (distinct.the_row ℓ)
+distinct_send ℓ = search (sendable, crosses, list_crosses.the_send, index_send) depth 30
+
+pub distinct_sync : (ℓ : _) → IsSync (distinct.the_row ℓ)
+distinct_sync ℓ = search (sendable, crosses, list_crosses.the_sync, index_sync) depth 30
+
 pub scratch_send : (ℓ : _) → IsSend (scratch.the_row ℓ)
-scratch_send ℓ = search (sendable, crosses, index_send, codes_cross.the_send, state_crosses.the_send, steps_cross.the_send, kept_crosses.the_send, kept_crosses.the_sync, pass_crosses.the_send) depth 40
+scratch_send ℓ = search (sendable, crosses, distinct_send, distinct_sync, distinct_cross.the_send, state_crosses.the_send, steps_cross.the_send, kept_crosses.the_send, kept_crosses.the_sync, pass_crosses.the_send) depth 40
 
 pub worker_send : (ℓ : _) → IsSend (worker.the_row ℓ)
 worker_send ℓ = search (sendable, pass_crosses.the_send, path_crosses.the_send, scratch_send) depth 30

@@ -1,7 +1,10 @@
 -- Crews: lists of workers, of which the first is worker 0.
 --     IsCrewOf b depth ws        1 to 16 workers over these words, for trials of so many turns
 --     FirstHas states ws         worker 0 has each state of the list, with its place as its id
---     IsListed g explored        the states near the starts of the problem, as exploring answers them
+--     AreNear g most states x    the states near the starts of the problem, level by level, as far as x says, at most one more than
+--                                `most`
+--     IsListed g states x        so they are for as many states as may be swept at most
+--     IsNear g x ws              worker 0 has them, with their places as ids
 --     seated desk k              the worker at a desk: its pass and its witness know and have seen what the pass k does
 --     new_worker g k depth       the worker of a new crew: nothing was backed up or tried yet
 --     IsNewCrew g k n depth ws   n workers that know and have seen what the pass k does, with one right each, and so do their witnesses
@@ -18,19 +21,20 @@ use Rattle.std.specs.Arc.{arc_value}
 use Rattle.ground_model.specs.Packed.{State}
 use Rattle.ground_model.specs.Ground.{Ground}
 use Rattle.ground_model.specs.Invariant.{IsGroundProblem}
+use Rattle.ground_model.specs.Steps.{ground_process, ground_starts}
 use Rattle.word_view.specs.declared.view.View.{View}
 use Rattle.word_view.specs.Steps.{without_rights}
 use Rattle.word_table.specs.Seen.{Board, Knowledge, knowledge, with_rights}
 use Rattle.brtdp_trial.specs.Paths.{PathView, new_path}
 use Rattle.kept_transitions.specs.Rows.{Transitions}
 use Rattle.bellman_backup.specs.Scratches.{ScratchView, new_scratch, with_witness}
-use Rattle.state_explorer.specs.declared.explored.Explored.{Explored}
 use Rattle.state_explorer.specs.declared.explored.TheConstants.{MOST_SWEPT}
-use Rattle.state_explorer.specs.Explored.{IsExplored}
+use Rattle.state_explorer.specs.Explored.{AreLevels}
 use Rattle.start_means.specs.declared.means.Means.{Means}
 use Rattle.start_means.specs.Means.{AreMeans}
 use Rattle.trial_workers.specs.declared.desk.Desk.{Desk}
 use Rattle.trial_workers.specs.declared.effort.Effort.{Effort}
+use Rattle.trial_workers.specs.declared.extent.Extent.{Extent}
 use Rattle.trial_workers.specs.declared.worker.Worker.{Worker}
 use Rattle.trial_workers.specs.Parts.{share_of}
 use Rattle.trial_workers.specs.Workers.{Stays, HasListed, IsWorkerOf, ShowsTrials}
@@ -45,8 +49,17 @@ abbrev pub FirstHas : List State → List Worker → Type 0
 FirstHas states [] = ⊥
 FirstHas states (w ∷ ws) = HasListed states w.pass.view
 
-abbrev pub IsListed : Ground → Explored → Type 0
-IsListed g explored = (most : ℕ) × (most ≤ MOST_SWEPT) × IsExplored g most explored
+abbrev pub AreNear : Ground → ℕ → List State → Extent → Type 0
+AreNear g most states x =
+    AreLevels (ground_process g) (ground_starts g) most states x.swept x.depth
+
+abbrev pub IsListed : Ground → List State → Extent → Type 0
+IsListed g states x = (most : ℕ) × (most ≤ MOST_SWEPT) × AreNear g most states x
+
+pub record IsNear (g : Ground) (x : Extent) (ws : List Worker) : Type 0 where
+  pub states : List State
+  pub listed : IsListed g states x
+  pub has : FirstHas states ws
 
 -- ---- new crews
 

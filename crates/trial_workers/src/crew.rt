@@ -13,7 +13,7 @@ use crate::desk::Desk;
 use crate::worker::Worker;
 use bellman_backup::Scratch;
 use brtdp_trial::Path;
-use ground_model::GroundProblem;
+use distinct_actions::DistinctActions;
 use kept_transitions::{Kept, Room};
 use std::alloc::{AllocError, Global};
 use std::marker::Model;
@@ -50,20 +50,20 @@ impl<'p> Model for Crew<'p> {
 /// room for those of its share; those near the starts, which are kept already, are shared by all.
 fn make_desks<'p>(
     alloc: Global,
-    problem: &'p GroundProblem,
+    index: &Arc<DistinctActions<'p>, Global>,
     near: &Arc<Kept, Global>,
     ids: u32,
     workers: u32,
     depth: u32,
 ) -> Result<Vec<Desk<'p>>, AllocError>
-    ensures { let kept = arc_value near.now
-        in IfOk result (λ desks. AreDesks problem.now kept depth workers desks.items) }
+    ensures { let g = arc_value index.now in let kept = arc_value near.now
+        in IfOk result (λ desks. AreDesks g kept depth workers desks.items) }
 {
     let room = Room::of_ids(ids / workers.max(1));
     let mut desks = Vec::with_capacity(alloc, workers as usize)?;
     for _ in 0..workers {
         desks.push(Desk {
-            scratch: Scratch::make(alloc, problem, ids, room.actions, room.followers)?,
+            scratch: Scratch::make(alloc, index, ids, room.actions, room.followers)?,
             near: Arc::try_clone(near)?,
             path: Path::make(alloc, depth)?,
         })?;
@@ -98,13 +98,14 @@ fn seat<'p>(words: &Words<'_>, pass: &mut Pass, desk: Desk<'p>) -> Worker<'p>
 
 impl<'p> Crew<'p> {
     /// A crew of so many workers for trials of at most `depth` turns. Each worker has a pass of its own that knows
-    /// and has seen what the given one does, with one of its rights; the given one ends. All workers read the
-    /// transitions `near`, which rest on what the given pass has noted, and keep further ones for themselves. All
-    /// memory is taken before. Where there is none the pass is handed back as it was.
+    /// and has seen what the given one does, with one of its rights; the given one ends. All workers find actions by
+    /// the index, and read the transitions `near`, which rest on what the given pass has noted; they keep further
+    /// ones for themselves. All memory is taken before. Where there is none the pass is handed back as it was.
     pub fn make(
         alloc: Global,
         words: &Words<'p>,
         pass: Pass,
+        index: &Arc<DistinctActions<'p>, Global>,
         near: &Arc<Kept, Global>,
         workers: u32,
         depth: u32,
@@ -112,6 +113,7 @@ impl<'p> Crew<'p> {
         requires here { IsOf words.now pass }
         requires free { pass.view.spare ≡ None }
         requires rights { pass.view.rights ≡ workers }
+        requires index { arc_value index.now ≡ words.now.problem }
         requires near { KeepsStates words.now.problem pass.view (arc_value near.now) }
         requires workers { (1 ≤ workers) × (workers ≤ MOST_WORKERS) }
         ensures made { IfOk result (IsNewCrew words.now.problem pass workers depth) }
@@ -123,8 +125,7 @@ impl<'p> Crew<'p> {
         let Ok(mut seats) = Vec::with_capacity(alloc, workers as usize) else {
             return Err((AllocError, pass));
         };
-        let (problem, ids) = (words.problem(), words.ids());
-        let Ok(mut desks) = make_desks(alloc, problem, near, ids, workers, depth) else {
+        let Ok(mut desks) = make_desks(alloc, index, near, words.ids(), workers, depth) else {
             return Err((AllocError, pass));
         };
         let mut pass = pass;

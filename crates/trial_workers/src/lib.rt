@@ -5,6 +5,7 @@
 mod crew;
 mod desk;
 mod effort;
+mod extent;
 mod meeting;
 mod parting;
 mod parts;
@@ -16,7 +17,7 @@ mod worker;
 
 pub use crew::{Crew, MOST_WORKERS};
 pub use effort::{Effort, Solved};
+pub use extent::Extent;
 pub use rounds::round;
 pub use solving::solve_words;
-pub use state_explorer::Explored;
 pub use worker::Worker;

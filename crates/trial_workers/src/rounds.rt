@@ -1,17 +1,17 @@
 //! Rounds.
 
 ghost use Rattle.std.specs.Prelude.{◌≤◌, ◌+◌, ℕ};
-ghost use Rattle.trial_workers.specs.Crews.{IsCrewOf, FirstHas, IsListed, HaveStayed, HaveTrials};
+ghost use Rattle.trial_workers.specs.Crews.{IsCrewOf, IsNear, HaveStayed, HaveTrials};
 ghost use Rattle.trial_workers.specs.Effort.{HaveRounds};
 
 use crate::crew::Crew;
 use crate::effort::Effort;
+use crate::extent::Extent;
 use crate::meeting::{meet_all, prepare};
 use crate::parting::take_parts;
 use crate::parts::Division;
 use crate::worker::Worker;
 use shelf_io::Gate;
-use state_explorer::Explored;
 use std::thread::Threads;
 use word_table::Words;
 
@@ -20,24 +20,23 @@ fn round_of<R: Threads + Sync, G: Gate>(
     rt: &R,
     words: &Words<'_>,
     workers: &mut [Worker<'_>],
-    explored: &Explored,
+    extent: &Extent,
     number: u32,
     effort: &Effort,
     gate: &G,
 )
     requires crew { IsCrewOf words.now effort.now.depth workers.old }
     requires deep { 1 ≤ effort.now.depth }
-    requires explored { IsListed words.now.problem explored.now }
-    requires has { FirstHas explored.now.states workers.old }
+    requires near { IsNear words.now.problem extent.now workers.old }
     ensures crew { IsCrewOf words.now effort.now.depth workers.new }
     ensures stayed { HaveStayed words.now workers.old workers.new }
     ensures trials { HaveTrials effort.now number workers.new }
-    ensures rounds { (r : ℕ) → HaveRounds words.now.problem explored.now.depth r workers.old
-        → HaveRounds words.now.problem explored.now.depth (r + 1) workers.new }
+    ensures rounds { (r : ℕ) → HaveRounds words.now.problem extent.now.depth r workers.old
+        → HaveRounds words.now.problem extent.now.depth (r + 1) workers.new }
 {
     let division = Division {
         workers: workers.len() as u32,
-        swept: explored.swept,
+        swept: extent.swept,
         trials: effort.trials,
         first_trial: u64::from(number) * u64::from(effort.trials),
     };
@@ -53,21 +52,20 @@ pub fn round<R: Threads + Sync, G: Gate>(
     rt: &R,
     words: &Words<'_>,
     crew: &mut Crew<'_>,
-    explored: &Explored,
+    extent: &Extent,
     number: u32,
     effort: &Effort,
     gate: &G,
 )
     requires crew { IsCrewOf words.now effort.now.depth crew.old }
     requires deep { 1 ≤ effort.now.depth }
-    requires explored { IsListed words.now.problem explored.now }
-    requires has { FirstHas explored.now.states crew.old }
+    requires near { IsNear words.now.problem extent.now crew.old }
     ensures crew { IsCrewOf words.now effort.now.depth crew.new }
     ensures stayed { HaveStayed words.now crew.old crew.new }
     ensures trials { HaveTrials effort.now number crew.new }
-    ensures rounds { (r : ℕ) → HaveRounds words.now.problem explored.now.depth r crew.old
-        → HaveRounds words.now.problem explored.now.depth (r + 1) crew.new }
+    ensures rounds { (r : ℕ) → HaveRounds words.now.problem extent.now.depth r crew.old
+        → HaveRounds words.now.problem extent.now.depth (r + 1) crew.new }
 {
     let workers = crew.workers.as_mut_slice();
-    round_of(rt, words, workers, explored, number, effort, gate);
+    round_of(rt, words, workers, extent, number, effort, gate);
 }

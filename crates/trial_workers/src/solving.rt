@@ -1,18 +1,18 @@
 //! Rounds until the means of the starts' bounds are near each other.
 
 ghost use Rattle.std.specs.Prelude.{◌≡◌, ◌≤◌, ◌<◌, ◌+◌, ◌-◌, ◌⊎◌, ℕ};
-ghost use Rattle.trial_workers.specs.Crews.{IsCrewOf, FirstHas, IsListed, HaveStayed, HaveTrials};
+ghost use Rattle.trial_workers.specs.Crews.{IsCrewOf, IsNear, HaveStayed, HaveTrials};
 ghost use Rattle.trial_workers.specs.Crews.{FirstReads};
 ghost use Rattle.trial_workers.specs.Effort.{HaveRounds, IsWithinPlain, FirstHasSeen};
 ghost use Rattle.trial_workers.specs.Effort.{FirstIsWithin};
 
 use crate::crew::Crew;
 use crate::effort::{Effort, Solved};
+use crate::extent::Extent;
 use crate::rounds::round;
 use crate::worker::Worker;
 use shelf_io::Gate;
 use start_means::{Means, read_means};
-use state_explorer::Explored;
 use std::thread::Threads;
 use word_table::Words;
 
@@ -20,25 +20,23 @@ use word_table::Words;
 fn read_first(
     words: &Words<'_>,
     workers: &mut [Worker<'_>],
-    explored: &Explored,
+    extent: &Extent,
     effort: &Effort,
 ) -> Means
     requires crew { IsCrewOf words.now effort.now.depth workers.old }
-    requires explored { IsListed words.now.problem explored.now }
-    requires has { FirstHas explored.now.states workers.old }
+    requires near { IsNear words.now.problem extent.now workers.old }
     ensures { FirstReads words.now workers.old workers.new result }
 {
     read_means(words, &mut workers[0].pass)
 }
 
 /// What worker 0 reads.
-fn read(words: &Words<'_>, crew: &mut Crew<'_>, explored: &Explored, effort: &Effort) -> Means
+fn read(words: &Words<'_>, crew: &mut Crew<'_>, extent: &Extent, effort: &Effort) -> Means
     requires crew { IsCrewOf words.now effort.now.depth crew.old }
-    requires explored { IsListed words.now.problem explored.now }
-    requires has { FirstHas explored.now.states crew.old }
+    requires near { IsNear words.now.problem extent.now crew.old }
     ensures { FirstReads words.now crew.old crew.new result }
 {
-    read_first(words, crew.workers.as_mut_slice(), explored, effort)
+    read_first(words, crew.workers.as_mut_slice(), extent, effort)
 }
 
 /// Makes rounds until the means of the starts' bounds differ by at most the gap, or the most rounds are made.
@@ -51,27 +49,26 @@ pub fn solve_words<R: Threads + Sync, G: Gate>(
     rt: &R,
     words: &Words<'_>,
     crew: &mut Crew<'_>,
-    explored: &Explored,
+    extent: &Extent,
     effort: &Effort,
     gate: &G,
 ) -> Solved
     requires crew { IsCrewOf words.now effort.now.depth crew.old }
     requires deep { 1 ≤ effort.now.depth }
-    requires explored { IsListed words.now.problem explored.now }
-    requires has { FirstHas explored.now.states crew.old }
+    requires near { IsNear words.now.problem extent.now crew.old }
     ensures crew { IsCrewOf words.now effort.now.depth crew.new }
     ensures stayed { HaveStayed words.now crew.old crew.new }
     ensures end { (result.upper ≤ result.lower + effort.now.gap)
         ⊎ (result.rounds ≡ effort.now.rounds) }
     ensures most { result.rounds ≤ effort.now.rounds }
     ensures trials { 0 < result.rounds → HaveTrials effort.now (result.rounds - 1) crew.new }
-    ensures rounds { HaveRounds words.now.problem explored.now.depth result.rounds crew.new }
-    ensures plain { IsWithinPlain words.now.problem explored.now.depth result }
+    ensures rounds { HaveRounds words.now.problem extent.now.depth result.rounds crew.new }
+    ensures plain { IsWithinPlain words.now.problem extent.now.depth result }
     ensures seen { FirstHasSeen words.now.problem result crew.new }
     ensures idle { FirstIsWithin words.now.problem effort.now.gap crew.old → result.rounds ≡ 0 }
 {
     let mut rounds = 0;
-    let mut means = read(words, crew, explored, effort);
+    let mut means = read(words, crew, extent, effort);
     while rounds < effort.rounds {
         if means.are_within(effort.gap) {
             return Solved {
@@ -80,9 +77,9 @@ pub fn solve_words<R: Threads + Sync, G: Gate>(
                 upper: means.upper,
             };
         }
-        round(rt, words, crew, explored, rounds, effort, gate);
+        round(rt, words, crew, extent, rounds, effort, gate);
         rounds += 1;
-        means = read(words, crew, explored, effort);
+        means = read(words, crew, extent, effort);
     }
     Solved {
         rounds,

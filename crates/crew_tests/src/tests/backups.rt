@@ -132,11 +132,12 @@ fn check_table<R: Abort>(
     let Opening {
         words,
         pass,
-        explored: _,
+        extent: _,
+        index,
         near: _,
     } = open(alloc, problem, &sizes)?;
     let mut pass = pass;
-    let mut scratch = Scratch::make(alloc, problem, 66, 64, 64)?;
+    let mut scratch = Scratch::make(alloc, &index, 66, 64, 64)?;
     check_backups(rt, alloc, &words, &mut pass, &mut scratch, rows, asked)
 }
 

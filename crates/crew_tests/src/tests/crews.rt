@@ -47,11 +47,20 @@ pub(super) fn solve_by_crew<R: Threads + Sync, G: Gate>(
     let Opening {
         words,
         pass,
-        explored,
+        extent,
+        index,
         near,
     } = open(alloc, problem, sizes)?;
-    let mut crew = make_crew(alloc, &words, pass, &near, sizes.workers, effort.depth)?;
-    let solved = solve_words(rt, &words, &mut crew, &explored, effort, gate);
+    let mut crew = make_crew(
+        alloc,
+        &words,
+        pass,
+        &index,
+        &near,
+        sizes.workers,
+        effort.depth,
+    )?;
+    let solved = solve_words(rt, &words, &mut crew, &extent, effort, gate);
     let image = finish(alloc, words, crew.dismiss())?;
     Ok((solved, image))
 }

@@ -41,4 +41,4 @@ returns-in-Some-clause-backed c = settled_backed c.args.words.now c.args.pass.no
 
 pub returns-in-Some-clause-narrows : goal.returns-in-Some-clause-narrows
 returns-in-Some-clause-narrows c = settled_narrows c.args.words.now c.args.pass.now c.weigh_kept.new.pass c.settle.new.pass c.args.id c.weigh_kept.new.scratch.last c.in-Some.best.lower c.in-Some.best.word
-    c.requires.here c.requires.known c.in-Some.ensures.keeps c.in-Some.ensures.told c.settle.ensures.one c.settle.ensures.narrowed
+    c.requires.here c.requires.known c.in-Some.ensures.keeps c.in-Some.ensures.told c.settle.ensures.one c.settle.ensures.narrowed c.enough_laws.ensures.upper

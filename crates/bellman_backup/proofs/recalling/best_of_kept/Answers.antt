@@ -1,15 +1,13 @@
 use Rattle.std.proofs.Common.{◌≡◌, ◌/◌, min, length, take, sym, ap, ◌∙◌, subst, arith}
 use Rattle.std.specs.Int.{div_ceil}
-use Rattle.std.proofs.lemmas.List.{take_more}
 use Rattle.fixed_round.specs.Words.{word_of}
 use Rattle.ground_model.specs.Ground.{Ground}
 use Rattle.ground_model.specs.Invariant.{IsGroundProblem}
-use Rattle.ground_model.specs.Steps.{ground_process}
 use Rattle.brtdp_trial.specs.Listed.{last_in}
 use Rattle.bellman_backup.specs.Kept.{IsKeptAction}
 use Rattle.bellman_backup.specs.Odds.{odds_of}
 use Rattle.bellman_backup.proofs.PlacedWeights.{odds_at, odds_within}
-use Rattle.bellman_backup.proofs.KeptReads.{is_inside, is_own_at, is_action_at, chosen_goes_on}
+use Rattle.bellman_backup.proofs.KeptReads.{is_inside, is_own_at, is_action_at, chosen_goes_on, chosen_ends}
 use Rattle.bellman_backup.proofs.Finishing.{word_within}
 use Rattle.bellman_backup.proofs.recalling.best_of_kept.Goals as goal
 
@@ -114,7 +112,7 @@ pub take_in-best-requires-clause-bound : goal.take_in-best-requires-clause-bound
 take_in-best-requires-clause-bound c =
     let g = c.args.words.now.problem in let s = c.requires.kept.0 in
     let problem : IsGroundProblem g = subst IsGroundProblem c.problem-problem.ensures c.penalty-penalty.ensures.valid in
-    word_within g c.args.pass.now.view c.loop-index.pass.view s (take c.loop-index.index ((ground_process g).choices s)) c.loop-index.chosen c.loop-index.best
+    word_within g c.args.pass.now.view c.loop-index.pass.view s (take c.loop-index.index c.requires.kept.1.codes) c.loop-index.chosen c.loop-index.best
     (let p = problem.penalty_within in omega arith) (c.loop-index.invariant.chosen_is s c.requires.kept.1)
 
 pub loop-index-preserved : goal.loop-index-preserved
@@ -132,9 +130,7 @@ loop-index-preserved c =
     let d = c.take_in-best.ensures in
     chosen_goes_on b k l c.read_kept-sums.new.pass t row c.loop-index.chosen c.take_in-best.new.chosen c.read_kept-sums.new.steps c.loop-index.best c.take_in-best.result i own a
     c.read_kept-sums.result c.loop-index.invariant c.read_kept-sums.ensures.keeps
-    (λ z kept. let n = kept.count in let q = c.loop-index-test.true in omega arith)
-    (λ z under. take_more ((ground_process g).choices z) i 0 under)
-    is.here at.coded
+    (let q = c.loop-index-test.true in omega arith) is.here at.coded
     (λ z kept. c.read_kept-sums.ensures.read z (subst (λ zs. IsKeptAction l.view z zs a own) (sym c.ids.ensures) kept))
     (d.lower ∙ ap (λ n. min (c.read_kept-sums.result.lower / n) c.loop-index.best.lower) den)
     (d.word ∙ ap (λ n. min (word_of (div_ceil c.read_kept-sums.result.upper n) own.code) c.loop-index.best.word) den)
@@ -142,3 +138,9 @@ loop-index-preserved c =
 
 pub returns-clause-problem : goal.returns-clause-problem
 returns-clause-problem c = subst IsGroundProblem c.problem-problem.ensures c.penalty-penalty.ensures.valid
+
+pub returns-clause-best : goal.returns-clause-best
+returns-clause-best c =
+    let q = c.loop-index-test.false in
+    chosen_ends c.args.words.now c.args.pass.now c.loop-index.pass c.args.kept.now c.args.row c.loop-index.chosen c.loop-index.best c.loop-index.index
+    c.loop-index.invariant (omega arith)

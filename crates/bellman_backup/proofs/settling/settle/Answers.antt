@@ -10,7 +10,7 @@ raise-requires-clause-allowed c =
     let b = c.args.words.now in let l = c.args.pass.now in let m = c.load_count.new.pass in let can = c.requires.can in
     may_raise b can.before l m c.args.id can.last c.args.best.now.lower c.args.best.now.word can.here can.known can.keeps can.weighed
     (keeps_count b l m c.load_count.result c.requires.here c.load_count.ensures.seen)
-    (subst (λ (x : Knowledge). HasOneEach x.view) (sym c.load_count.ensures.seen) c.load_count.ensures.one)
+    (subst (λ (x : Knowledge). HasOneEach x.view) (sym c.load_count.ensures.seen) c.load_count.ensures.one) c.enough_laws.ensures.lower
 
 pub sink_upper-requires-clause-allowed : goal.sink_upper-requires-clause-allowed
 sink_upper-requires-clause-allowed c =

@@ -1,10 +1,8 @@
 use Rattle.std.proofs.Common.{◌≡◌, ◌/◌, min, length, sym, ap, ◌∙◌, subst, arith}
 use Rattle.std.specs.Int.{div_ceil}
-use Rattle.std.proofs.lemmas.List.{take_more}
 use Rattle.fixed_round.specs.Words.{word_of}
 use Rattle.ground_model.specs.Ground.{Ground}
 use Rattle.ground_model.specs.Invariant.{IsGroundProblem}
-use Rattle.ground_model.specs.Steps.{ground_process}
 use Rattle.bellman_backup.specs.Kept.{IsKeptAction}
 use Rattle.bellman_backup.specs.Leasts.{HasSummed}
 use Rattle.bellman_backup.specs.Odds.{odds_of}
@@ -135,9 +133,7 @@ loop-index-preserved c =
     let den : c.den.result ≡ a.den = c.den.ensures (odds_of a) (odds_at g.actions c.args.weights.now c.requires.weights own.code a at.coded) in
     let d = c.with-least.ensures in let m = c.sum_kept-sums.new.pass in
     least_goes_on b k l m t row c.args.first c.loop-index.least c.with-least.result i own a c.sum_kept-sums.result c.loop-index.invariant c.sum_kept-sums.ensures.keeps
-    (λ z kept. let n = kept.count in let q = c.loop-index-test.true in omega arith)
-    (λ z under. take_more ((ground_process g).choices z) i 0 under)
-    is.here at.coded
+    (let q = c.loop-index-test.true in omega arith) is.here at.coded
     (subst (λ zs. HasSummed g l.view m.view zs a own c.sum_kept-sums.result) c.ids.ensures c.sum_kept-sums.ensures.summed)
     d.den (d.lower ∙ ap (λ n. min (c.sum_kept-sums.result.lower / n) (c.loop-index.least.mean.sum / c.loop-index.least.mean.den)) den)
     (d.word ∙ ap (λ n. min (word_of (div_ceil c.sum_kept-sums.result.upper n) own.code) c.loop-index.least.word) den)
@@ -148,5 +144,5 @@ returns-clause-problem c = subst IsGroundProblem c.problem-problem.ensures c.pen
 pub returns-clause-least : goal.returns-clause-least
 returns-clause-least c =
     let b = c.args.words.now in let row = c.args.row in let i = c.loop-index.index in let so = c.loop-index.invariant in
-    let q = c.loop-index-test.false in let auto = c.loop-index.auto in
-    least_ends b c.args.pass.now c.loop-index.pass c.args.kept.now row c.args.first c.loop-index.least i so (λ s are. let n = are.count in omega arith)
+    let q = c.loop-index-test.false in
+    least_ends b c.args.pass.now c.loop-index.pass c.args.kept.now row c.args.first c.loop-index.least i so (omega arith)

@@ -16,7 +16,7 @@ raise_from-requires-clause-allowed c =
     let can = c.requires.can.settle in
     may_raise b can.before l m c.args.id can.last (mean.sum / mean.den) c.requires.can.word can.here can.known can.keeps can.weighed
     (keeps_count b l m c.load_count.result c.requires.here c.load_count.ensures.seen)
-    (subst (λ (x : Knowledge). HasOneEach x.view) (sym c.load_count.ensures.seen) c.load_count.ensures.one)
+    (subst (λ (x : Knowledge). HasOneEach x.view) (sym c.load_count.ensures.seen) c.load_count.ensures.one) c.enough_laws.ensures.lower
 
 pub sink_from-requires-clause-noted : goal.sink_from-requires-clause-noted
 sink_from-requires-clause-noted c =

@@ -1,10 +1,10 @@
 -- What the rounds take along may go to another thread.
 use denote.Param.Send.{sendable}
-use Rattle.state_explorer.proofs.explored.Explored.TheSendSync as explored_crosses
 use Rattle.trial_workers.proofs.effort.Effort.TheSendSync as effort_crosses
+use Rattle.trial_workers.proofs.extent.Extent.TheSendSync as extent_crosses
 use Rattle.trial_workers.proofs.Sending.{words_sync}
 use Rattle.serving_solver.proofs.Sending.{crew_send}
 use Rattle.serving_solver.proofs.beside.solve_beside.Goals as goal
 
 pub join_mut-requires-send-F : goal.join_mut-requires-send-F
-join_mut-requires-send-F g c κs within = search (sendable, words_sync, crew_send, explored_crosses.the_sync, effort_crosses.the_sync) depth 30
+join_mut-requires-send-F g c κs within = search (sendable, words_sync, crew_send, effort_crosses.the_sync, extent_crosses.the_sync) depth 30

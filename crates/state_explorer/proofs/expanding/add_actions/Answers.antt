@@ -5,7 +5,6 @@ use Rattle.ground_model.specs.Steps.{ground_process}
 use Rattle.kept_transitions.specs.Meaning.{IsPlaceOf}
 use Rattle.state_explorer.specs.Found.{Grows}
 use Rattle.state_explorer.specs.Kept.{Puts, HasAction, HasActions}
-use Rattle.state_explorer.proofs.Choices.{code_within}
 use Rattle.state_explorer.proofs.Growth.{grows_none, grows_images, all_images_past}
 use Rattle.state_explorer.proofs.Putting.{puts_begin, puts_none, puts_more, actions_begin, actions_more}
 use Rattle.state_explorer.proofs.Rows.{place_still}
@@ -21,8 +20,7 @@ loop-code-init c =
     }
 
 pub add_choices-requires-clause-code : goal.add_choices-requires-clause-code
-add_choices-requires-clause-code c =
-    code_within c.args.problem.now c.args.state.now c.args.codes.now c.loop-code.code-index c.requires.codes c.loop-code-test.true
+add_choices-requires-clause-code c = c.requires.codes c.loop-code.code-index 0 c.loop-code-test.true
 
 pub returns-then-len-most-clause-grows : goal.returns-then-len-most-clause-grows
 returns-then-len-most-clause-grows c =

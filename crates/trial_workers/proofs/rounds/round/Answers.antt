@@ -5,7 +5,7 @@ use Rattle.trial_workers.proofs.rounds.round.Goals as goal
 
 pub returns-clause-rounds : goal.returns-clause-rounds
 returns-clause-rounds g c = λ r rounds.
-    let news = c.round_of.new.workers in let g' = c.args.words.now.problem in let d = c.args.explored.now.depth in
+    let news = c.round_of.new.workers in let g' = c.args.words.now.problem in let d = c.args.extent.now.depth in
     let back : take c.crew.inside.workers.len (news ++ drop (length news) c.crew.inside.workers.items) ≡ news =
     let same : c.crew.inside.workers.len ≡ length news = search rules in
     subst (λ n. take n (news ++ drop (length news) c.crew.inside.workers.items) ≡ news) (sym same) (take-append_seam news (drop (length news) c.crew.inside.workers.items)) in

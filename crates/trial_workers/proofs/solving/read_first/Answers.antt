@@ -6,8 +6,8 @@ use Rattle.trial_workers.proofs.solving.read_first.Goals as goal
 
 pub read_means-requires-clause-starts : goal.read_means-requires-clause-starts
 read_means-requires-clause-starts c =
-    let ws = c.args.workers.now in let d = c.index-workers-0.result in let e = c.args.explored.now in
-    starts_are_had c.args.words.now.problem e c.requires.explored (slice_index_or ws 0 d).pass.view (first_had e.states ws d c.requires.crew.some c.requires.has)
+    let ws = c.args.workers.now in let d = c.index-workers-0.result in let near = c.requires.near in
+    starts_are_had c.args.words.now.problem near.states c.args.extent.now near.listed (slice_index_or ws 0 d).pass.view (first_had near.states ws d c.requires.crew.some near.has)
 
 pub returns : goal.returns
 returns c =

@@ -2,5 +2,5 @@
 use Rattle.bellman_backup.proofs.PlacedWeights.{ArePlaced}
 use Rattle.bellman_backup.proofs.action_weights.ActionWeights.new.Given as goal
 
-abbrev pub invariant-loop-action : goal.invariant-loop-action
-invariant-loop-action l = ArePlaced l.action-items l.spans.items l.weights.items l.action-index
+abbrev pub invariant-loop-code : goal.invariant-loop-code
+invariant-loop-code l = ArePlaced l.action-items l.spans.items l.weights.items l.code

@@ -9,7 +9,7 @@ use Rattle.bellman_backup.proofs.scratch.Scratch.with_near.Goals as goal
 
 pub invariant_of-result : goal.invariant_of-result
 invariant_of-result c =
-    let g : Ground = c.self.inside.index in let w = c.args.witness in let t = arc_value c.args.near in
+    let g : Ground = arc_value c.self.inside.index in let w = c.args.witness in let t = arc_value c.args.near in
     let same : g ≡ c.args.self.problem = ap (λ (v : ScratchView). v.problem) c.self.view_is in
     let fresh : c.self.inside.witness ≡ None = ap (λ (v : ScratchView). v.witness) c.self.view_is ∙ c.requires.fresh in (
       c.self.invariant.0,

@@ -13,6 +13,7 @@ use Rattle.sweep_levels.specs.Laws.{states_of}
 use Rattle.sweep_levels.proofs.Near.{start_is_near, successor_is_near, near_is_start_or_successor, near_grows}
 use Rattle.state_explorer.specs.Found.{Grows}
 use Rattle.state_explorer.specs.Explored.{AreLevels}
+use Rattle.state_explorer.specs.Exploring.{Exploring}
 use Rattle.state_explorer.proofs.Distinct.{AreDistinct, distinct_within}
 
 not_past : (e d : ℕ) → (suc d ≤ e → ⊥) → e ≤ d
@@ -30,19 +31,7 @@ module _ {S : Type 0} where
   taken_later l next level s early within at = (next, omega (arith, take_within level l within), get_or-take level l next s early ∙ at)
 
 module _ {S A : Type 0} (p : Process S A) (starts : List (Start S)) (most : ℕ) where
-  -- the first `level` states are those of near depth, and the successors of the first `next` are listed
-  pub record Exploring (next level depth : ℕ) (l : List S) : Type 0 where
-    pub differ : AreDistinct l
-    pub first : (more : List S) × (l ≡ states_of starts ++ more)
-    pub next_within : next ≤ level
-    pub level_within : level ≤ length l
-    pub few : length l ≤ most
-    pub positive : 0 < depth
-    pub done : (s : S) → Contains (take level l) s ↔ Contains (near p starts depth) s
-    pub within : (s : S) → Contains l s → Contains (near p starts (suc depth)) s
-    pub expanded : (s : S) → Contains (take next l) s → (t : S) → Contains (successors p s) t → Contains l t
-
-  pub begins : (l : List S) → AreDistinct l → l ≡ states_of starts → length l ≤ most → Exploring 0 (length l) 1 l
+  pub begins : (l : List S) → AreDistinct l → l ≡ states_of starts → length l ≤ most → Exploring p starts most 0 (length l) 1 l
   begins l differ is few = record {
     differ = differ;
     first = ([], is ∙ sym (append_nil (states_of starts)));
@@ -58,7 +47,7 @@ module _ {S A : Type 0} (p : Process S A) (starts : List (Start S)) (most : ℕ)
     expanded = λ s h. absurd (Contains-nil s h);
   }
 
-  module _ (next level depth : ℕ) (l : List S) (e : Exploring next level depth l) where
+  module _ (next level depth : ℕ) (l : List S) (e : Exploring p starts most next level depth l) where
     -- a state of near depth + 1 is a start, or follows one of near depth, which was gone through
     all_listed : next ≡ level → (t : S) → Contains (near p starts (suc depth)) t → Contains l t
     all_listed complete t inside = elim (near_is_start_or_successor p starts depth t inside) [
@@ -66,7 +55,7 @@ module _ {S A : Type 0} (p : Process S A) (starts : List (Start S)) (most : ℕ)
       | inr later ↦ e.expanded later.0 (subst (λ n. Contains (take n l) later.0) (sym complete) ((e.done later.0).1 later.1)) t later.2
     ]
 
-    level_up : next ≡ level → Exploring next (length l) (suc depth) l
+    level_up : next ≡ level → Exploring p starts most next (length l) (suc depth) l
     level_up complete = record {
       differ = e.differ;
       first = e.first;
@@ -84,14 +73,14 @@ module _ {S A : Type 0} (p : Process S A) (starts : List (Start S)) (most : ℕ)
 
     -- where the next state is the first behind the level, the level behind is complete
     pub reaches : (level' depth' : ℕ) → next < length l → (next ≡ level → (level' ≡ length l) × (depth' ≡ suc depth))
-        → (next ≢ level → (level' ≡ level) × (depth' ≡ depth)) → Exploring next level' depth' l × (next < level')
+        → (next ≢ level → (level' ≡ level) × (depth' ≡ depth)) → Exploring p starts most next level' depth' l × (next < level')
     reaches level' depth' more up same = dite (ℕ_discrete next level)
         (λ h. let r = up h in (
-          subst (λ n. Exploring next n depth' l) (sym r.0) (subst (λ n. Exploring next (length l) n l) (sym r.1) (level_up h)),
+          subst (λ n. Exploring p starts most next n depth' l) (sym r.0) (subst (λ n. Exploring p starts most next (length l) n l) (sym r.1) (level_up h)),
           omega (arith, r.0),
         ))
         (λ h. let r = same h in (
-          subst (λ n. Exploring next n depth' l) (sym r.0) (subst (λ n. Exploring next level n l) (sym r.1) e),
+          subst (λ n. Exploring p starts most next n depth' l) (sym r.0) (subst (λ n. Exploring p starts most next level n l) (sym r.1) e),
           (let w = e.next_within in let q = r.0 in omega arith),
         ))
 
@@ -115,7 +104,7 @@ module _ {S A : Type 0} (p : Process S A) (starts : List (Start S)) (most : ℕ)
       long_more : length l' ≡ length l + length g.more
       long_more = ap length g.is ∙ length-append l g.more
 
-      pub goes_on : AreDistinct l' → length l' ≤ most → Exploring (next + 1) level depth l'
+      pub goes_on : AreDistinct l' → length l' ≤ most → Exploring p starts most (next + 1) level depth l'
       goes_on differ few = record {
         differ = differ;
         first = first_more;
@@ -152,7 +141,7 @@ module _ {S A : Type 0} (p : Process S A) (starts : List (Start S)) (most : ℕ)
         are = done_more;
       }
 
-  module _ (level depth : ℕ) (l : List S) (e : Exploring (length l) level depth l) where
+  module _ (level depth : ℕ) (l : List S) (e : Exploring p starts most (length l) level depth l) where
     all_reached : (d : ℕ) (t : S) → Contains (near p starts d) t → Contains l t
     all_reached zero t inside = absurd (Contains-nil t inside)
     all_reached (suc d) t inside = elim (near_is_start_or_successor p starts d t inside) [

@@ -4,7 +4,7 @@ use Rattle.ground_model.specs.declared.start.Start.{Start}
 use Rattle.ground_model.specs.Packed.{State}
 use Rattle.state_explorer.specs.Found.{IsAdded}
 use Rattle.state_explorer.proofs.Distinct.{distinct_more}
-use Rattle.state_explorer.proofs.exploring.list_starts.Goals as goal
+use Rattle.state_explorer.proofs.levels.list_starts.Goals as goal
 
 pub loop-start-preserved : goal.loop-start-preserved
 loop-start-preserved c =

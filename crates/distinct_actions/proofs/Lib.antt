@@ -1,0 +1,5 @@
+pub mod Members
+pub mod Repeats
+pub mod Opens
+pub mod Thinned
+pub mod Enough

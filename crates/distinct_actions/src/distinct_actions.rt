@@ -1,0 +1,107 @@
+//! An index of the actions that are enough.
+
+ghost use Rattle.std.specs.Prelude.{◌≡◌, ◌*◌, ◌<◌, ◌≤◌, ◌^◌, length, take, IfOk, IsTrue};
+ghost use Rattle.distinct_actions.specs.Enough.{AreEnough, RepeatsLast};
+ghost use Rattle.distinct_actions.specs.Repeats.{AreRepeats, AreFound, IsThinned};
+
+use crate::distinct_codes::DistinctCodes;
+use crate::same::do_the_same;
+use ground_model::{GroundAction, GroundProblem, List, State};
+use open_actions::OpenActions;
+use std::alloc::{AllocError, Global};
+use std::marker::Model;
+
+/// The actions of a problem, found as `OpenActions` finds them. Those that do the same as the action before are
+/// left out. It is made once, and is read by many at a time. Contracts see the problem.
+#[derive(Drop)]
+pub struct DistinctActions<'p> {
+    index: OpenActions<'p>,
+    /// Of each code, whether its action does the same as the one with the code before.
+    repeats: List<bool>,
+}
+
+impl<'p> Model for DistinctActions<'p> {
+    ghost use Rattle.std.specs.Coded.{codes};
+    ghost use Rattle.ground_model.specs.contracts.condition.GroundCondition as of_conditions;
+    ghost use Rattle.ground_model.specs.Ground.{Ground};
+    ghost use Rattle.distinct_actions.specs.Repeats.{AreRepeats};
+
+    ghost Value = { Ground };
+
+    ghost coded = { Prim.hlevel (codes, of_conditions.the_row.coded) };
+
+    ghost view = { λ d. d.index };
+
+    ghost invariant = { λ d. AreRepeats (d.index).actions d.repeats };
+}
+
+/// Of each action, whether it does the same as the one before.
+fn repeats_of(alloc: Global, actions: &[GroundAction]) -> Result<List<bool>, AllocError>
+    ensures { IfOk result (AreRepeats actions.now) }
+{
+    let mut repeats = Vec::with_capacity(alloc, actions.len())?;
+    for (code, action) in actions.iter().enumerate() {
+        repeats.push(code > 0 && do_the_same(&actions[code - 1], action))?;
+    }
+    Ok(List::from_vec(repeats))
+}
+
+impl<'p> DistinctActions<'p> {
+    /// The index of a problem's actions. It is refused for want of memory alone.
+    pub fn new(alloc: Global, problem: &'p GroundProblem) -> Result<Self, AllocError>
+        ensures { IfOk result (λ actions. actions ≡ problem.now) }
+    {
+        Ok(DistinctActions {
+            index: OpenActions::new(alloc, problem)?,
+            repeats: repeats_of(alloc, problem.actions())?,
+        })
+    }
+
+    /// The problem.
+    pub fn problem(&self) -> &'p GroundProblem
+        ensures { result.now ≡ self.now }
+    {
+        self.index.problem()
+    }
+
+    /// Whether the action with a code is left out, since it does the same as the one before.
+    pub fn repeats(&self, code: u16) -> bool
+        ensures { IsTrue result → RepeatsLast (self.now).actions code }
+    {
+        self.repeats
+            .as_slice()
+            .get(code as usize)
+            .copied()
+            .unwrap_or(false)
+    }
+
+    /// Writes those of the found codes whose actions do not repeat the one before, and answers how many they are.
+    fn thin_out(&self, found: &[u16], codes: &mut List<u16>) -> usize
+        requires open_there { AreFound self.now found.now }
+        requires room { length found.now ≤ length codes.old }
+        ensures thinned { IsThinned self.now found.now (take result codes.new) }
+        ensures count { result ≤ length codes.new }
+        ensures room { length codes.new ≡ length codes.old }
+    {
+        let mut count = 0;
+        for code in found {
+            if !self.repeats(*code) {
+                codes.set(count, *code);
+                count += 1;
+            }
+        }
+        count
+    }
+
+    /// Writes codes of actions that are open in a state, in rising order, so that for each open action there is one
+    /// that does the same. It takes no memory.
+    pub fn fill(&self, state: &State, into: &mut DistinctCodes)
+        requires words { 64 * length state.now < 2 ^ 32 }
+        requires room { length self.now.actions ≤ into.old.room }
+        ensures codes { AreEnough self.now state.now into.new.codes }
+        ensures room { into.new.room ≡ into.old.room }
+    {
+        self.index.fill(state, &mut into.open);
+        into.count = self.thin_out(into.open.as_slice(), &mut into.codes);
+    }
+}
