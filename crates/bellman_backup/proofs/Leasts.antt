@@ -37,17 +37,17 @@ use Rattle.bellman_backup.proofs.KeptReads.{KeptSoFar, KeptChosen, chosen_goes_o
 
 -- ---- the choices of an action
 
-pub record SummedSoFar (b : Board) (k l : Knowledge) (ids : List ℕ) (a : GroundAction) (kept : KeptAction) (sums : Sums) (i : ℕ) : Type 0 where
+pub record SummedSoFar (b : Board) (k l : Knowledge) (own : ℕ) (ids : List ℕ) (a : GroundAction) (kept : KeptAction) (sums : Sums) (place i : ℕ) : Type 0 where
   pub steps : List Step
-  pub is : KeptSoFar b k l ids a kept steps sums i
+  pub is : KeptSoFar b k l own ids a kept steps sums place i
 
 -- ---- the actions of a state
 
-pub record LeastSoFar (b : Board) (k l : Knowledge) (t : Transitions) (row : KeptRow) (first : ℕ) (least : Least) (i : ℕ) : Type 0 where
+pub record LeastSoFar (b : Board) (k l : Knowledge) (own : ℕ) (t : Transitions) (row : KeptRow) (first : ℕ) (least : Least) (i : ℕ) : Type 0 where
   pub den : 0 < least.mean.den
   pub chosen : List Step
   pub best : Best
-  pub is : KeptChosen b k l t row chosen best i
+  pub is : KeptChosen b k l own t row chosen best i
   pub lower : least.mean.sum / least.mean.den ≡ best.lower
   pub word : least.word ≡ min first best.word
 
@@ -60,9 +60,9 @@ least_again first w word b word' next so = omega arith
 divided_by_one : (n : ℕ) → n / 1 ≡ n
 divided_by_one n = omega arith
 
-pub least_begins : (b : Board) (k : Knowledge) (t : Transitions) (row : KeptRow) (first penalty : ℕ) → penalty ≡ b.problem.penalty → IsOf b k
-    → first ≤ quit_word b.problem.penalty → LeastSoFar b k k t row first (record { mean = record { sum = penalty; den = 1 }; word = first }) 0
-least_begins b k t row first penalty same of within =
+pub least_begins : (b : Board) (k : Knowledge) (own : ℕ) (t : Transitions) (row : KeptRow) (first penalty : ℕ) → penalty ≡ b.problem.penalty → IsOf b k
+    → first ≤ quit_word b.problem.penalty → LeastSoFar b k k own t row first (record { mean = record { sum = penalty; den = 1 }; word = first }) 0
+least_begins b k own t row first penalty same of within =
     let best : Best = record { code = GIVE_UP; den = 1; lower = b.problem.penalty; word = quit_word b.problem.penalty } in record {
       den = omega arith;
       chosen = [];
@@ -72,51 +72,51 @@ least_begins b k t row first penalty same of within =
       word = first_is_least first (quit_word b.problem.penalty) within;
     }
 
-module _ (b : Board) (k l m : Knowledge) (t : Transitions) (row : KeptRow) (first : ℕ) (least least' : Least) (i : ℕ) (own : KeptAction) (a : GroundAction)
-    (sums : Sums) (so : LeastSoFar b k l t row first least i) (keeps : Keeps b l m)
-    (within : i < row.past - row.first) (here : slice_get t.actions (row.first + i) ≡ Some own) (coded : slice_get b.problem.actions own.code ≡ Some a)
-    (read : HasSummed b.problem l.view m.view t.ids a own sums) (den : 0 < least'.mean.den)
+module _ (b : Board) (k l m : Knowledge) (own : ℕ) (t : Transitions) (row : KeptRow) (first : ℕ) (least least' : Least) (i : ℕ) (action : KeptAction) (a : GroundAction)
+    (sums : Sums) (so : LeastSoFar b k l own t row first least i) (keeps : Keeps b l m)
+    (within : i < row.past - row.first) (here : slice_get t.actions (row.first + i) ≡ Some action) (coded : slice_get b.problem.actions action.code ≡ Some a)
+    (read : HasSummed b.problem l.view m.view own t.ids a action sums) (den : 0 < least'.mean.den)
     (lower : least'.mean.sum / least'.mean.den ≡ min (sums.lower / a.den) (least.mean.sum / least.mean.den))
-    (word : least'.word ≡ min (word_of (div_ceil sums.upper a.den) own.code) least.word) where
+    (word : least'.word ≡ min (word_of (div_ceil sums.upper a.den) action.code) least.word) where
   abbrev low : ℕ
   low = min (sums.lower / a.den) so.best.lower
 
   abbrev high : ℕ
-  high = min (word_of (div_ceil sums.upper a.den) own.code) so.best.word
+  high = min (word_of (div_ceil sums.upper a.den) action.code) so.best.word
 
-  goes_on_as : (chosen : List Step) (best : Best) → KeptChosen b k m t row chosen best (i + 1) → best.lower ≡ low → best.word ≡ high
-      → LeastSoFar b k m t row first least' (i + 1)
+  goes_on_as : (chosen : List Step) (best : Best) → KeptChosen b k m own t row chosen best (i + 1) → best.lower ≡ low → best.word ≡ high
+      → LeastSoFar b k m own t row first least' (i + 1)
   goes_on_as chosen best is lower_is word_is = record {
     den = den;
     chosen = chosen;
     best = best;
     is = is;
     lower = lower ∙ ap (min (sums.lower / a.den)) so.lower ∙ sym lower_is;
-    word = least_again first (word_of (div_ceil sums.upper a.den) own.code) least.word so.best.word least'.word word so.word ∙ ap (min first) (sym word_is);
+    word = least_again first (word_of (div_ceil sums.upper a.den) action.code) least.word so.best.word least'.word word so.word ∙ ap (min first) (sym word_is);
   }
 
   abbrev taken : Best
-  taken = record { code = own.code; den = a.den; lower = low; word = high }
+  taken = record { code = action.code; den = a.den; lower = low; word = high }
 
   abbrev left : Best
   left = record { code = so.best.code; den = so.best.den; lower = low; word = high }
 
-  pub least_goes_on : LeastSoFar b k m t row first least' (i + 1)
+  pub least_goes_on : LeastSoFar b k m own t row first least' (i + 1)
   least_goes_on = dite (dec_lt (sums.lower / a.den) so.best.lower)
       (λ under. goes_on_as read.steps taken
-      (chosen_goes_on b k l m t row so.chosen read.steps read.steps so.best taken i own a sums so.is keeps within here coded read.is refl refl
+      (chosen_goes_on b k l m own t row so.chosen read.steps read.steps so.best taken i action a sums so.is keeps within here coded read.is refl refl
       (λ _. refl) (λ over. absurd (omega arith))) refl refl)
       (λ over. goes_on_as so.chosen left
-      (chosen_goes_on b k l m t row so.chosen so.chosen read.steps so.best left i own a sums so.is keeps within here coded read.is refl refl
+      (chosen_goes_on b k l m own t row so.chosen so.chosen read.steps so.best left i action a sums so.is keeps within here coded read.is refl refl
       (λ under. absurd (omega arith)) (λ _. refl)) refl refl)
 
-pub least_ends : (b : Board) (k l : Knowledge) (t : Transitions) (row : KeptRow) (first : ℕ) (least : Least) (i : ℕ) → LeastSoFar b k l t row first least i
-    → row.past - row.first ≤ i → HasLeast b.problem k.view l.view t row first least
-least_ends b k l t row first least i so all = record {
+pub least_ends : (b : Board) (k l : Knowledge) (own : ℕ) (t : Transitions) (row : KeptRow) (first : ℕ) (least : Least) (i : ℕ) → LeastSoFar b k l own t row first least i
+    → row.past - row.first ≤ i → HasLeast b.problem k.view l.view own t row first least
+least_ends b k l own t row first least i so all = record {
   den = so.den;
   chosen = so.chosen;
   best = so.best;
-  is = chosen_ends b k l t row so.chosen so.best i so.is all;
+  is = chosen_ends b k l own t row so.chosen so.best i so.is all;
   lower = so.lower;
   word = so.word;
 }
@@ -127,7 +127,7 @@ least_ends b k l t row first least i so all = record {
 module _ (b : Board) (k k' k0 k1 k2 : Knowledge) (id lower upper : ℕ) (t : Transitions) (row : KeptRow) (least : Least) (of : IsOf b k) (known : knows k.view id)
     (seen_lower : k' ≡ knowledge k.table (with_lower_load k.view id lower)) (seen_upper : k0 ≡ knowledge k'.table (with_upper_load k'.view id upper))
     (recalled : Keeps b k0 k1) (loads : k1.view.loads ≡ k0.view.loads) (one : HasOneState k1.view) (is : IsKeptState b.problem k1.view id t row)
-    (problem : IsGroundProblem b.problem) (read : Keeps b k1 k2) (has : HasLeast b.problem k1.view k2.view t row upper least) where
+    (problem : IsGroundProblem b.problem) (read : Keeps b k1 k2) (has : HasLeast b.problem k1.view k2.view id t row upper least) where
   loaded_lower : Keeps b k k'
   loaded_lower = keeps_lower_load b k k' id lower of seen_lower
 

@@ -6,11 +6,13 @@ pub mod Choosers
 pub mod Narrowing
 pub mod Answering
 pub mod Stepping
+pub mod OpenCodes
 pub mod Finishing
 pub mod KeptRows
 pub mod TransitionsKept
 pub mod PlacedWeights
 pub mod KeptReads
+pub mod OwnActions
 pub mod Quotients
 pub mod Leasts
 pub mod Racers

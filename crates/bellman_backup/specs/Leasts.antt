@@ -1,9 +1,10 @@
 -- The least over the open actions of a state, where no choice is written down.
---     HasSummed g v w ids a k sums
---                                the choices of an action were read by what is kept of it, and these are the sums over them
---     HasLeast g v w t row first l
---                                the open actions were read by what is kept of them: l has the least lower mean over them and giving up,
---                                and the least word over them, giving up and the first one
+--     HasSummed g v w own ids a k sums
+--                                the choices of an action were read by what is kept of it, those that are idle by the own id, and these
+--                                are the sums over them
+--     HasLeast g v w own t row first l
+--                                the open actions were read so: l has the least lower mean over them and giving up, and the least word
+--                                over them, giving up and the first one
 --     CanNarrow b l id lower upper least
 --                                so it is of the id's state since some earlier time of the pass, and the id's numbers were noted: the
 --                                upper word is the first one
@@ -26,18 +27,18 @@ use Rattle.bellman_backup.specs.Totals.{HasReadAction}
 use Rattle.bellman_backup.specs.Choosing.{HasChosen}
 use Rattle.bellman_backup.specs.Weighing.{CanSettle}
 
-module _ (g : Ground) (v w : View) where
+module _ (g : Ground) (v w : View) (own : ℕ) where
   -- the choices as they were read are those of some list
   pub record HasSummed (ids : List ℕ) (a : GroundAction) (kept : KeptAction) (sums : Sums) : Type 0 where
     pub steps : List Step
-    pub is : (s : State) → IsKeptAction v s ids a kept → HasReadAction g v w s a steps sums
+    pub is : (s : State) → IsKeptAction v s own ids a kept → HasReadAction g v w s a steps sums
 
   -- the best is that of a choice among the same readings
   pub record HasLeast (t : Transitions) (row : KeptRow) (first : ℕ) (l : Least) : Type 0 where
     pub den : 0 < l.mean.den
     pub chosen : List Step
     pub best : Best
-    pub is : (s : State) (are : AreKept v s g t row) → HasChosen g v w s are.codes chosen best
+    pub is : (s : State) (are : AreKept v s own g t row) → HasChosen g v w s are.codes chosen best
     pub lower : l.mean.sum / l.mean.den ≡ best.lower
     pub word : l.word ≡ min first best.word
 

@@ -2,21 +2,22 @@
 
 ghost use Rattle.std.specs.Prelude.{◌≡◌, ◌+◌, ◌<◌, ◌^◌, ◌++◌, Some, length, map, take, All, IfOk, OnOk};
 ghost use Rattle.std.specs.List.{slice_get};
-ghost use Rattle.bellman_backup.specs.Candidates.{choice_weights};
-ghost use Rattle.bellman_backup.specs.Odds.{Odds, odds_of, IsWithin, HavePlaced, HasPlaced};
+ghost use Rattle.bellman_backup.specs.Odds.{Odds, share_of, odds_of, IsWithin, HavePlaced, HasPlaced};
 
+use crate::share::Share;
 use crate::span::Span;
 use distinct_actions::DistinctActions;
 use ground_model::{Choice, GroundAction};
 use std::alloc::{AllocError, Global};
 use std::marker::Model;
 
-/// The weights and the denominators of a problem's actions, by code. An action whose weights are those of the
-/// action before shares them. Contracts see the weights and the denominator of each action.
+/// The weights and the denominators of a problem's actions, by code, and which choices are idle. The shares of an
+/// action's choices stand where those of the action before do, if they are the same. Contracts see the shares and
+/// the denominator of each action.
 #[derive(Drop)]
 pub(crate) struct ActionWeights {
     spans: Vec<Span>,
-    weights: Vec<u64>,
+    shares: Vec<Share>,
 }
 
 impl Model for ActionWeights {
@@ -25,37 +26,37 @@ impl Model for ActionWeights {
 
     ghost Value = { List Odds };
 
-    ghost view = { λ w. map (odds_in w.weights.items) w.spans.items };
+    ghost view = { λ w. map (odds_in w.shares.items) w.spans.items };
 
-    ghost invariant = { λ w. All (IsWithin w.weights.items) w.spans.items };
+    ghost invariant = { λ w. All (IsWithin w.shares.items) w.spans.items };
 }
 
-/// Puts the weights of choices behind others.
-fn add_weights(choices: &[Choice], weights: &mut Vec<u64>) -> Result<(), AllocError>
-    ensures { OnOk result (weights.new.items ≡ weights.old.items ++ choice_weights choices.now) }
+/// Puts the shares of choices behind others.
+fn add_shares(choices: &[Choice], shares: &mut Vec<Share>) -> Result<(), AllocError>
+    ensures { OnOk result (shares.new.items ≡ shares.old.items ++ map share_of choices.now) }
 {
     for choice in choices {
-        weights.push(choice.weight)?;
+        shares.push(Share::of(choice))?;
     }
     Ok(())
 }
 
-/// Where the weights of an action stand. They are put behind the others, unless they are those of the action
+/// Where the shares of an action's choices stand. They are put behind the others, unless they are those of the action
 /// before.
-fn place_weights(
+fn place_shares(
     action: &GroundAction,
     spans: &[Span],
-    weights: &mut Vec<u64>,
+    shares: &mut Vec<Share>,
 ) -> Result<Span, AllocError>
-    requires within { All (IsWithin weights.old.items) spans.now }
-    requires room { length weights.old.items + length action.now.choices < 2 ^ 32 }
-    ensures { IfOk result (λ span. HasPlaced action.now span weights.old.items weights.new.items) }
+    requires within { All (IsWithin shares.old.items) spans.now }
+    requires room { length shares.old.items + length action.now.choices < 2 ^ 32 }
+    ensures { IfOk result (λ span. HasPlaced action.now span shares.old.items shares.new.items) }
 {
-    let first = weights.len();
-    add_weights(action.choices.as_slice(), weights)?;
+    let first = shares.len();
+    add_shares(action.choices.as_slice(), shares)?;
     if let Some(last) = spans.last() {
-        if last.of(weights.as_slice()) == &weights[first..] {
-            weights.truncate(first);
+        if last.of(shares.as_slice()) == &shares[first..] {
+            shares.truncate(first);
             return Ok(Span {
                 first: last.first,
                 count: last.count,
@@ -65,31 +66,31 @@ fn place_weights(
     }
     Ok(Span {
         first: first as u32,
-        count: (weights.len() - first) as u32,
+        count: (shares.len() - first) as u32,
         den: action.den,
     })
 }
 
-/// Where the weights of an action stand. Those of one that does the same as the action before stand where those of
-/// that action do, and its choices are not looked at.
-fn find_weights(
+/// Where the shares of an action's choices stand. Those of one that does the same as the action before stand where
+/// those of that action do, and its choices are not looked at.
+fn find_shares(
     index: &DistinctActions<'_>,
     code: u16,
     action: &GroundAction,
     spans: &[Span],
-    weights: &mut Vec<u64>,
+    shares: &mut Vec<Share>,
 ) -> Result<Span, AllocError>
     requires coded { slice_get index.now.actions code ≡ Some action.now }
-    requires placed { HavePlaced (take code index.now.actions) spans.now weights.old.items }
-    requires room { length weights.old.items + length action.now.choices < 2 ^ 32 }
-    ensures { IfOk result (λ span. HasPlaced action.now span weights.old.items weights.new.items) }
+    requires placed { HavePlaced (take code index.now.actions) spans.now shares.old.items }
+    requires room { length shares.old.items + length action.now.choices < 2 ^ 32 }
+    ensures { IfOk result (λ span. HasPlaced action.now span shares.old.items shares.new.items) }
 {
     if index.repeats(code) {
         if let Some(last) = spans.last() {
             return Ok(*last);
         }
     }
-    place_weights(action, spans, weights)
+    place_shares(action, spans, shares)
 }
 
 impl ActionWeights {
@@ -98,20 +99,20 @@ impl ActionWeights {
         ensures { IfOk result (λ weights. weights ≡ map odds_of index.now.actions) }
     {
         let mut spans = Vec::new(alloc);
-        let mut weights = Vec::new(alloc);
+        let mut shares = Vec::new(alloc);
         for (code, action) in index.problem().actions().iter().enumerate() {
-            let span = find_weights(index, code as u16, action, spans.as_slice(), &mut weights)?;
+            let span = find_shares(index, code as u16, action, spans.as_slice(), &mut shares)?;
             spans.push(span)?;
         }
-        Ok(ActionWeights { spans, weights })
+        Ok(ActionWeights { spans, shares })
     }
 
-    /// The weights of an action's choices, in their order.
-    pub(crate) fn weights(&self, code: u16) -> &[u64]
+    /// The shares of an action's choices, in their order.
+    pub(crate) fn shares(&self, code: u16) -> &[Share]
         requires { code < length self.now }
-        ensures { (o : Odds) → slice_get self.now code ≡ Some o → result.now ≡ o.weights }
+        ensures { (o : Odds) → slice_get self.now code ≡ Some o → result.now ≡ o.shares }
     {
-        self.spans[code as usize].of(self.weights.as_slice())
+        self.spans[code as usize].of(self.shares.as_slice())
     }
 
     /// The denominator of an action's choices.

@@ -1,28 +1,36 @@
 //! The transitions of a state, as they are kept.
 
-ghost use Rattle.std.specs.Prelude.{◌≡◌, ◌<◌, ◌≤◌, Some, IsTrue, length};
+ghost use Rattle.std.specs.Prelude.{◌≡◌, ◌<◌, ℕ, Some, IsTrue, IsSome, IfSome, length};
 ghost use Rattle.std.specs.List.{slice_get};
+ghost use Rattle.ground_model.specs.Choices.{cost_of, next_state};
+ghost use Rattle.ground_model.specs.Invariant.{IsChoice};
+ghost use Rattle.ground_model.specs.Packed.{has_bit};
 ghost use Rattle.distinct_actions.specs.Enough.{AreEnough};
 ghost use Rattle.word_view.specs.Views.{IsReached};
 ghost use Rattle.word_table.specs.Seen.{IsOf};
+ghost use Rattle.state_interner.specs.Interned.{IsIdOf};
 ghost use Rattle.kept_transitions.specs.Rows.{IsKept};
 ghost use Rattle.kept_transitions.specs.Meaning.{HasGrown};
 ghost use Rattle.bellman_backup.specs.Backups.{Keeps};
 ghost use Rattle.bellman_backup.specs.Choosing.{IsOpenState};
 ghost use Rattle.bellman_backup.specs.Kept.{AreKept};
-ghost use Rattle.bellman_backup.specs.Growing.{HasKeptId, HasKeptAction, HaveKeptActions};
+ghost use Rattle.bellman_backup.specs.Growing.{HasKeptId, HasKeptChoice};
+ghost use Rattle.bellman_backup.specs.Growing.{HasKeptAction, HaveKeptActions};
 ghost use Rattle.bellman_backup.specs.Totals.{IsUsable};
+ghost use Rattle.bellman_backup.specs.declared.lookup.Lookup.TheVariants as The;
 
-use ground_model::{GroundAction, State};
+use crate::lookup::Lookup;
+use ground_model::{Choice, GroundAction, State};
 use ground_step::apply;
-use kept_transitions::{Kept, KeptAction, KeptRow};
-use state_interner::{Hints, Interned, intern_near};
+use kept_transitions::{Kept, KeptAction, KeptRow, idle_law, is_idle};
+use state_interner::Hints;
 use word_table::{Pass, Words};
 
 /// Keeps the id of a state. False: it has none, or there is no room.
 fn keep_id(
     words: &Words<'_>,
     pass: &mut Pass,
+    lookup: Lookup,
     state: &State,
     hints: &mut Hints,
     kept: &mut Kept,
@@ -30,15 +38,55 @@ fn keep_id(
     requires here { IsOf words.now pass.old }
     requires right { 0 < pass.old.view.rights }
     requires reached { IsReached pass.old.view state.now }
+    requires wide { length state.now ≡ words.now.layout.width }
     ensures keeps { Keeps words.now pass.old pass.new }
     ensures loads { pass.new.view.loads ≡ pass.old.view.loads }
+    ensures spare { lookup ≡ The.Find → pass.new.view.spare ≡ pass.old.view.spare }
     ensures grown { HasGrown kept.old kept.new }
     ensures kept { IsTrue result → HasKeptId pass.new.view state.now kept.old kept.new }
 {
-    match intern_near(words, pass, state, hints) {
-        Interned::Id(id) => kept.push_id(id),
-        Interned::Full => false,
+    match lookup.id_of(words, pass, state, hints) {
+        Some(id) => kept.push_id(id),
+        None => false,
     }
+}
+
+/// Keeps the id of the state to which a choice leads, and answers what the choice costs. An idle choice leads to
+/// the state itself, and no id of it is kept. None: the state to which it leads has no id, or there is no room.
+fn keep_choice(
+    words: &Words<'_>,
+    pass: &mut Pass,
+    lookup: Lookup,
+    choice: &Choice,
+    state: &State,
+    next: &mut State,
+    hints: &mut Hints,
+    kept: &mut Kept,
+) -> Option<u64>
+    requires here { IsOf words.now pass.old }
+    requires right { 0 < pass.old.view.rights }
+    requires choice { IsChoice (length words.now.problem.atoms) choice.now }
+    requires reached { IsReached pass.old.view (next_state state.now choice.now) }
+    requires wide { length state.now ≡ words.now.layout.width }
+    requires fits { length next.old ≡ length state.now }
+    ensures keeps { Keeps words.now pass.old pass.new }
+    ensures loads { pass.new.view.loads ≡ pass.old.view.loads }
+    ensures spare { lookup ≡ The.Find → pass.new.view.spare ≡ pass.old.view.spare }
+    ensures fits { length next.new ≡ length state.now }
+    ensures grown { HasGrown kept.old kept.new }
+    ensures cost { IfSome result (λ paid. paid ≡ cost_of (has_bit state.now) choice.now) }
+    ensures kept { let old = pass.old.view in let new = pass.new.view
+        in IsSome result → HasKeptChoice old new state.now choice.now kept.old kept.new }
+{
+    if is_idle(choice) {
+        idle_law(state);
+        return Some(choice.cost);
+    }
+    let paid = apply(choice, state, next);
+    if keep_id(words, pass, lookup, next, hints, kept) {
+        return Some(paid);
+    }
+    None
 }
 
 /// Keeps an open action of a state. False: a state to which it leads has no id, there is no room, or the cost
@@ -46,6 +94,7 @@ fn keep_id(
 fn keep_action(
     words: &Words<'_>,
     pass: &mut Pass,
+    lookup: Lookup,
     code: u16,
     action: &GroundAction,
     state: &State,
@@ -57,22 +106,23 @@ fn keep_action(
     requires right { 0 < pass.old.view.rights }
     requires action { IsUsable words.now.problem pass.old.view state.now action.now }
     requires coded { slice_get words.now.problem.actions code ≡ Some action.now }
+    requires wide { length state.now ≡ words.now.layout.width }
     requires fits { length next.old ≡ length state.now }
     ensures keeps { Keeps words.now pass.old pass.new }
     ensures loads { pass.new.view.loads ≡ pass.old.view.loads }
+    ensures spare { lookup ≡ The.Find → pass.new.view.spare ≡ pass.old.view.spare }
     ensures fits { length next.new ≡ length state.now }
     ensures grown { HasGrown kept.old kept.new }
-    ensures kept { let g = words.now.problem
-        in IsTrue result → HasKeptAction pass.new.view state.now g code kept.old kept.new }
+    ensures kept { let g = words.now.problem in let old = pass.old.view in let new = pass.new.view
+        in IsTrue result → HasKeptAction old new state.now g code kept.old kept.new }
 {
     let first = kept.id_count();
     let mut cost = 0u128;
     for choice in action.choices.as_slice() {
-        let paid = apply(choice, state, next);
-        cost += u128::from(choice.weight) * u128::from(paid);
-        if !keep_id(words, pass, next, hints, kept) {
+        let Some(paid) = keep_choice(words, pass, lookup, choice, state, next, hints, kept) else {
             return false;
-        }
+        };
+        cost += u128::from(choice.weight) * u128::from(paid);
     }
     if cost > u128::from(u64::MAX) {
         return false;
@@ -88,6 +138,7 @@ fn keep_action(
 fn keep_actions(
     words: &Words<'_>,
     pass: &mut Pass,
+    lookup: Lookup,
     codes: &[u16],
     state: &State,
     next: &mut State,
@@ -101,15 +152,16 @@ fn keep_actions(
     requires fits { length next.old ≡ length state.now }
     ensures keeps { Keeps words.now pass.old pass.new }
     ensures loads { pass.new.view.loads ≡ pass.old.view.loads }
+    ensures spare { lookup ≡ The.Find → pass.new.view.spare ≡ pass.old.view.spare }
     ensures fits { length next.new ≡ length state.now }
     ensures grown { HasGrown kept.old kept.new }
-    ensures kept { let g = words.now.problem in IsTrue result
-        → HaveKeptActions pass.new.view state.now g codes.now kept.old kept.new }
+    ensures kept { let g = words.now.problem in let old = pass.old.view in let new = pass.new.view
+        in IsTrue result → HaveKeptActions old new state.now g codes.now kept.old kept.new }
 {
     let problem = words.problem();
     for code in codes {
         let action = &problem.actions()[*code as usize];
-        if !keep_action(words, pass, *code, action, state, next, hints, kept) {
+        if !keep_action(words, pass, lookup, *code, action, state, next, hints, kept) {
             return false;
         }
     }
@@ -121,6 +173,7 @@ fn keep_actions(
 pub(crate) fn expand(
     words: &Words<'_>,
     pass: &mut Pass,
+    lookup: Lookup,
     codes: &[u16],
     state: &State,
     next: &mut State,
@@ -134,14 +187,15 @@ pub(crate) fn expand(
     requires fits { length next.old ≡ length state.now }
     ensures keeps { Keeps words.now pass.old pass.new }
     ensures loads { pass.new.view.loads ≡ pass.old.view.loads }
+    ensures spare { lookup ≡ The.Find → pass.new.view.spare ≡ pass.old.view.spare }
     ensures fits { length next.new ≡ length state.now }
     ensures grown { HasGrown kept.old kept.new }
-    ensures row { let g = words.now.problem
-        in IsKept result → AreKept pass.new.view state.now g kept.new result }
+    ensures row { let g = words.now.problem in (own : ℕ) → IsIdOf pass.old.view state.now own
+        → IsKept result → AreKept pass.new.view state.now own g kept.new result }
 {
     let first = kept.action_count();
     let ids = kept.id_count();
-    if keep_actions(words, pass, codes, state, next, hints, kept) {
+    if keep_actions(words, pass, lookup, codes, state, next, hints, kept) {
         return KeptRow {
             first,
             past: kept.action_count(),

@@ -1,9 +1,8 @@
-//! The laws of kept transitions.
+//! The law of kept transitions.
 
-ghost use Rattle.bellman_backup.specs.Laws.{ListedIsKept, KeptIsKeptLater};
+ghost use Rattle.bellman_backup.specs.Laws.{KeptIsKeptLater};
 
-/// What is kept is kept by each view that knows the ids, and stays so.
+/// What a view keeps is kept by each view that has noted more.
 pub fn kept_laws()
-    ensures listed { ListedIsKept }
     ensures later { KeptIsKeptLater }
 {}

@@ -9,8 +9,10 @@ ghost use Rattle.kept_transitions.specs.Meaning.{HasGrown};
 ghost use Rattle.bellman_backup.specs.Scratches.{IsScratchOf, AreBuffers};
 ghost use Rattle.bellman_backup.specs.Backups.{Keeps};
 ghost use Rattle.bellman_backup.specs.Kept.{IsKeptState};
+ghost use Rattle.bellman_backup.specs.declared.lookup.Lookup.TheVariants as The;
 
 use crate::expanding::expand;
+use crate::lookup::Lookup;
 use crate::places::place_of;
 use crate::scratch::Scratch;
 use crate::states::read_state;
@@ -23,9 +25,10 @@ use word_table::{Pass, Words, meet, split};
 
 /// Keeps open actions of an id's state that are enough, and answers where they stand. The answer is a row of nothing
 /// at a goal, and where they can not be kept.
-fn find_row(
+pub(crate) fn find_row(
     words: &Words<'_>,
     pass: &mut Pass,
+    lookup: Lookup,
     id: u32,
     index: &DistinctActions<'_>,
     codes: &mut DistinctCodes,
@@ -41,6 +44,7 @@ fn find_row(
     requires buffers { AreBuffers index.now codes.old state.old next.old }
     ensures keeps { Keeps words.now pass.old pass.new }
     ensures loads { pass.new.view.loads ≡ pass.old.view.loads }
+    ensures spare { lookup ≡ The.Find → pass.new.view.spare ≡ pass.old.view.spare }
     ensures buffers { AreBuffers index.now codes.new state.new next.new }
     ensures grown { HasGrown kept.old kept.new }
     ensures row { let g = words.now.problem
@@ -51,7 +55,16 @@ fn find_row(
         return KeptRow::NEVER;
     }
     index.fill(state, codes);
-    expand(words, pass, codes.as_slice(), state, next, hints, kept)
+    expand(
+        words,
+        pass,
+        lookup,
+        codes.as_slice(),
+        state,
+        next,
+        hints,
+        kept,
+    )
 }
 
 /// The witness, once it has learnt what the pass has noted. Where there is none, a copy of the pass without rights
@@ -93,6 +106,7 @@ pub(crate) fn learn(words: &Words<'_>, pass: &mut Pass, id: u32, scratch: &mut S
     let row = find_row(
         words,
         pass,
+        Lookup::Intern,
         id,
         &scratch.index,
         &mut scratch.open_codes,

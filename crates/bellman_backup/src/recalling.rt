@@ -9,8 +9,7 @@ ghost use Rattle.word_view.specs.Laws.{HasMore};
 ghost use Rattle.word_table.specs.Seen.{IsOf};
 ghost use Rattle.word_rule.specs.Told.{HasOneEach, HasOneState};
 ghost use Rattle.bellman_backup.specs.Scratches.{IsScratchOf};
-ghost use Rattle.bellman_backup.specs.Candidates.{choice_weights};
-ghost use Rattle.bellman_backup.specs.Odds.{odds_of};
+ghost use Rattle.bellman_backup.specs.Odds.{share_of, odds_of};
 ghost use Rattle.bellman_backup.specs.Backups.{Keeps};
 ghost use Rattle.bellman_backup.specs.Choosing.{HasChosen};
 ghost use Rattle.bellman_backup.specs.Kept.{IsKeptAction, AreKept};
@@ -23,6 +22,7 @@ use crate::learning::learn;
 use crate::outcomes::read_id;
 use crate::places::place_of;
 use crate::scratch::Scratch;
+use crate::share::Share;
 use crate::steps::Steps;
 use crate::sums::Sums;
 use crate::weighing::weigh;
@@ -32,24 +32,25 @@ use ground_model::GroundAction;
 use kept_transitions::{Kept, KeptAction, KeptRow};
 use word_table::{Pass, Words, load_count, meet};
 
-/// Reads the outcomes of an open action by the ids that are kept of it: the choices as they were read, and the
-/// sums over them.
+/// Reads the outcomes of an open action by the ids that are kept of it, and by the id of the state itself for choices
+/// that are idle: the choices as they were read, and the sums over them.
 fn read_kept(
     words: &Words<'_>,
     pass: &mut Pass,
     action: &GroundAction,
-    weights: &[u64],
+    shares: &[Share],
     kept: &KeptAction,
+    own: u32,
     ids: &[u32],
     steps: &mut Steps,
 ) -> Sums
     requires here { IsOf words.now pass.old }
     requires action { IsAction (length words.now.problem.atoms) action.now }
     requires penalty { words.now.problem.penalty ≤ MOST_PENALTY }
-    requires weights { weights.now ≡ choice_weights action.now.choices }
-    requires kept { (s : State) × IsKeptAction pass.old.view s ids.now action.now kept.now }
+    requires shares { shares.now ≡ map share_of action.now.choices }
+    requires kept { (s : State) × IsKeptAction pass.old.view s own ids.now action.now kept.now }
     ensures keeps { Keeps words.now pass.old pass.new }
-    ensures read { (s : State) → IsKeptAction pass.old.view s ids.now action.now kept.now
+    ensures read { (s : State) → IsKeptAction pass.old.view s own ids.now action.now kept.now
         → HasReadAction words.now.problem pass.old.view pass.new.view s action.now steps.new result }
 {
     steps.clear();
@@ -58,21 +59,23 @@ fn read_kept(
         lower: cost,
         upper: cost,
     };
-    for index in 0..weights.len() {
-        let weight = weights[index];
-        let id = ids[kept.first as usize + index];
-        let step = read_id(words, pass, weight, id);
+    let mut place = kept.first as usize;
+    for share in shares {
+        let id = share.id_in(own, ids, place);
+        place += usize::from(share.moves);
+        let step = read_id(words, pass, share.weight, id);
         sums = sums.with(0, &step);
         steps.push(step);
     }
     sums
 }
 
-/// Reads the open actions that are kept of a state, in the order of their codes, and chooses among them and giving
-/// up.
+/// Reads the open actions that are kept of the state of an id, in the order of their codes, and chooses among them and
+/// giving up.
 fn best_of_kept(
     words: &Words<'_>,
     pass: &mut Pass,
+    own: u32,
     row: KeptRow,
     kept: &Kept,
     weights: &ActionWeights,
@@ -80,12 +83,12 @@ fn best_of_kept(
     chosen: &mut Steps,
 ) -> Best
     requires here { IsOf words.now pass.old }
-    requires kept { (s : State) × AreKept pass.old.view s words.now.problem kept.now row }
+    requires kept { (s : State) × AreKept pass.old.view s own words.now.problem kept.now row }
     requires weights { weights.now ≡ map odds_of words.now.problem.actions }
     ensures problem { IsGroundProblem words.now.problem }
     ensures keeps { Keeps words.now pass.old pass.new }
     ensures best { let g = words.now.problem
-        in (s : State) (are : AreKept pass.old.view s g kept.now row)
+        in (s : State) (are : AreKept pass.old.view s own g kept.now row)
         → HasChosen g pass.old.view pass.new.view s are.codes chosen.new result }
 {
     let problem = words.problem();
@@ -98,11 +101,18 @@ fn best_of_kept(
     };
     chosen.clear();
     for index in 0..row.past - row.first {
-        let own = kept.action(row.first + index);
-        let action = &problem.actions()[own.code as usize];
-        let shares = weights.weights(own.code);
-        let sums = read_kept(words, pass, action, shares, &own, kept.ids(), tried);
-        best = take_in(best, own.code, weights.den(own.code), sums, tried, chosen);
+        let entry = kept.action(row.first + index);
+        let action = &problem.actions()[entry.code as usize];
+        let shares = weights.shares(entry.code);
+        let sums = read_kept(words, pass, action, shares, &entry, own, kept.ids(), tried);
+        best = take_in(
+            best,
+            entry.code,
+            weights.den(entry.code),
+            sums,
+            tried,
+            chosen,
+        );
     }
     best
 }
@@ -150,6 +160,7 @@ fn weigh_learnt(
     let best = best_of_kept(
         words,
         pass,
+        id,
         place.row,
         place.kept,
         &scratch.weights,

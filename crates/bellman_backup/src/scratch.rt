@@ -72,7 +72,7 @@ impl<'p> Model for Scratch<'p> {
 }
 
 /// A state of the problem's length.
-fn blank_state(alloc: Global, problem: &GroundProblem) -> Result<State, AllocError>
+pub(crate) fn blank_state(alloc: Global, problem: &GroundProblem) -> Result<State, AllocError>
     ensures { IfOk result (λ state. length state ≡ width problem.now) }
 {
     let words = problem.atoms().len().div_ceil(64).max(1);

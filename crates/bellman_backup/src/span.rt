@@ -1,11 +1,13 @@
-//! Where the weights of an action stand.
+//! Where the shares of an action's choices stand.
 
 ghost use Rattle.std.specs.Prelude.{◌≡◌, ◌+◌, ◌≤◌, length, take, drop};
 
-/// Where the weights of an action stand among those of all actions, and its denominator.
+use crate::share::Share;
+
+/// Where the shares of an action's choices stand among those of all actions, and its denominator.
 #[derive(Clone, Copy, Drop)]
 pub(crate) struct Span {
-    /// The place of the first weight.
+    /// The place of the first share.
     pub first: u32,
     /// How many there are: one for each choice.
     pub count: u32,
@@ -14,11 +16,11 @@ pub(crate) struct Span {
 }
 
 impl Span {
-    /// The weights.
-    pub(crate) fn of(self, weights: &[u64]) -> &[u64]
-        requires { self.first + self.count ≤ length weights.now }
-        ensures { result.now ≡ take self.count (drop self.first weights.now) }
+    /// The shares.
+    pub(crate) fn of(self, shares: &[Share]) -> &[Share]
+        requires { self.first + self.count ≤ length shares.now }
+        ensures { result.now ≡ take self.count (drop self.first shares.now) }
     {
-        &weights[self.first as usize..self.first as usize + self.count as usize]
+        &shares[self.first as usize..self.first as usize + self.count as usize]
     }
 }

@@ -21,6 +21,7 @@ pub(crate) fn read_state(words: &Words<'_>, pass: &mut Pass, id: u32, into: &mut
     ensures table { IsTable words.now.problem words.now.layout }
     ensures keeps { Keeps words.now pass.old pass.new }
     ensures loads { pass.new.view.loads ≡ pass.old.view.loads }
+    ensures spare { pass.new.view.spare ≡ pass.old.view.spare }
     ensures state { IsStateOf pass.old.view pass.new.view id into.new }
     ensures fits { length into.new ≡ width words.now.problem }
 {

@@ -9,8 +9,7 @@ ghost use Rattle.word_view.specs.Views.{knows, noted_lower, noted_upper, CanRais
 ghost use Rattle.word_rule.specs.Told.{HasOneEach};
 ghost use Rattle.word_table.specs.Seen.{IsOf};
 ghost use Rattle.bellman_backup.specs.Scratches.{IsScratchOf};
-ghost use Rattle.bellman_backup.specs.Candidates.{choice_weights};
-ghost use Rattle.bellman_backup.specs.Odds.{odds_of};
+ghost use Rattle.bellman_backup.specs.Odds.{share_of, odds_of};
 ghost use Rattle.bellman_backup.specs.Backups.{Keeps, Narrows};
 ghost use Rattle.bellman_backup.specs.Kept.{IsKeptAction, AreKept};
 ghost use Rattle.bellman_backup.specs.Leasts.{HasSummed, HasLeast, CanNarrow};
@@ -23,6 +22,7 @@ use crate::outcomes::read_id;
 use crate::places::place_of;
 use crate::recalling::recall;
 use crate::scratch::Scratch;
+use crate::share::Share;
 use crate::sums::Sums;
 use bound_words::{raise, sink_upper};
 use distinct_actions::enough_laws;
@@ -31,56 +31,60 @@ use ground_model::GroundAction;
 use kept_transitions::{Kept, KeptAction, KeptRow};
 use word_table::{Pass, Words, load_count, load_lower, load_upper};
 
-/// The sums over the choices of an open action, read by the ids that are kept of it.
+/// The sums over the choices of an open action, read by the ids that are kept of it, and by the id of the state itself
+/// for choices that are idle.
 fn sum_kept(
     words: &Words<'_>,
     pass: &mut Pass,
     action: &GroundAction,
-    weights: &[u64],
+    shares: &[Share],
     kept: &KeptAction,
+    own: u32,
     ids: &[u32],
 ) -> Sums
     requires here { IsOf words.now pass.old }
     requires action { IsAction (length words.now.problem.atoms) action.now }
     requires penalty { words.now.problem.penalty ≤ MOST_PENALTY }
-    requires weights { weights.now ≡ choice_weights action.now.choices }
-    requires kept { (s : State) × IsKeptAction pass.old.view s ids.now action.now kept.now }
+    requires shares { shares.now ≡ map share_of action.now.choices }
+    requires kept { (s : State) × IsKeptAction pass.old.view s own ids.now action.now kept.now }
     ensures keeps { Keeps words.now pass.old pass.new }
     ensures summed { let g = words.now.problem
-        in HasSummed g pass.old.view pass.new.view ids.now action.now kept.now result }
+        in HasSummed g pass.old.view pass.new.view own ids.now action.now kept.now result }
 {
     let cost = u128::from(kept.cost);
     let mut sums = Sums {
         lower: cost,
         upper: cost,
     };
-    for index in 0..weights.len() {
-        let weight = weights[index];
-        let id = ids[kept.first as usize + index];
-        let step = read_id(words, pass, weight, id);
+    let mut place = kept.first as usize;
+    for share in shares {
+        let id = share.id_in(own, ids, place);
+        place += usize::from(share.moves);
+        let step = read_id(words, pass, share.weight, id);
         sums = sums.with(0, &step);
     }
     sums
 }
 
-/// The least numbers over the open actions that are kept of a state, and over giving up. The least word is at most
-/// the first one.
+/// The least numbers over the open actions that are kept of the state of an id, and over giving up. The least word is
+/// at most the first one.
 fn least_of_kept(
     words: &Words<'_>,
     pass: &mut Pass,
+    own: u32,
     row: KeptRow,
     kept: &Kept,
     weights: &ActionWeights,
     first: UpperWord,
 ) -> Least
     requires here { IsOf words.now pass.old }
-    requires kept { (s : State) × AreKept pass.old.view s words.now.problem kept.now row }
+    requires kept { (s : State) × AreKept pass.old.view s own words.now.problem kept.now row }
     requires weights { weights.now ≡ map odds_of words.now.problem.actions }
     requires first { first ≤ quit_word words.now.problem.penalty }
     ensures problem { IsGroundProblem words.now.problem }
     ensures keeps { Keeps words.now pass.old pass.new }
     ensures least { let g = words.now.problem
-        in HasLeast g pass.old.view pass.new.view kept.now row first result }
+        in HasLeast g pass.old.view pass.new.view own kept.now row first result }
 {
     let problem = words.problem();
     let penalty = problem.penalty();
@@ -92,11 +96,11 @@ fn least_of_kept(
         word: first,
     };
     for index in 0..row.past - row.first {
-        let own = kept.action(row.first + index);
-        let action = &problem.actions()[own.code as usize];
-        let shares = weights.weights(own.code);
-        let sums = sum_kept(words, pass, action, shares, &own, kept.ids());
-        least = least.with(sums, weights.den(own.code), own.code);
+        let entry = kept.action(row.first + index);
+        let action = &problem.actions()[entry.code as usize];
+        let shares = weights.shares(entry.code);
+        let sums = sum_kept(words, pass, action, shares, &entry, own, kept.ids());
+        least = least.with(sums, weights.den(entry.code), entry.code);
     }
     least
 }
@@ -180,6 +184,14 @@ pub fn narrow(words: &Words<'_>, pass: &mut Pass, id: u32, scratch: &mut Scratch
     };
     recall(words, pass, &mut witness);
     scratch.witness = Some(witness);
-    let least = least_of_kept(words, pass, place.row, place.kept, &scratch.weights, upper);
+    let least = least_of_kept(
+        words,
+        pass,
+        id,
+        place.row,
+        place.kept,
+        &scratch.weights,
+        upper,
+    );
     narrow_from(words, pass, id, lower, upper, least);
 }

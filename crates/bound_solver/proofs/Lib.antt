@@ -1,6 +1,5 @@
 pub mod Rows
 pub mod Reading
-pub mod Sinking
 pub mod Listing
 pub mod Ending
 pub mod Answering

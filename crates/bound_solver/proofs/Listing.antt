@@ -1,8 +1,9 @@
 -- The table of the states near the starts, as it is made.
-use Rattle.std.proofs.Common.{◌≡◌, ℕ, ◌+◌, ◌≤◌, Option, Some, None, List, length, refl, sym, ap, ◌∙◌, subst, arith}
+use Rattle.std.proofs.Common.{◌≡◌, ℕ, ◌+◌, ◌<◌, ◌≤◌, Option, Some, None, List, [], length, get_or, refl, sym, ap, ◌∙◌, subst, arith}
 use Rattle.std.specs.Prelude.{IsTrue}
 use Rattle.std.specs.Arc.{arc_value}
 use Rattle.std.specs.List.{slice_get}
+use Rattle.std.proofs.lemmas.Option.{slice_get-get_or}
 use Rattle.ground_model.specs.Packed.{State}
 use Rattle.ground_model.specs.Ground.{Ground}
 use Rattle.ground_model.proofs.Packed.{length-inside}
@@ -14,13 +15,11 @@ use Rattle.word_view.proofs.Noting.{given_is_had}
 use Rattle.word_view.proofs.Seen.{has_state_more}
 use Rattle.word_table.specs.Made.{AreFirst, IsMade}
 use Rattle.word_table.specs.Seen.{Board, Knowledge, IsOf}
-use Rattle.state_interner.specs.Interned.{IsIdOf}
-use Rattle.kept_transitions.specs.Meaning.{AreKeptStates, IsPlaceOf}
 use Rattle.bellman_backup.specs.Kept.{KeepsStates}
-use Rattle.bellman_backup.proofs.KeptRows.{listed_is_kept}
+use Rattle.bellman_backup.specs.Backups.{Keeps}
 use Rattle.trial_workers.specs.declared.extent.Extent.{Extent}
 use Rattle.trial_workers.specs.declared.worker.Worker.{Worker}
-use Rattle.trial_workers.specs.Workers.{Stays, HasListed}
+use Rattle.trial_workers.specs.Workers.{HasListed}
 use Rattle.trial_workers.specs.Crews.{AreNear, IsNear, FirstHas}
 use Rattle.bound_solver.specs.declared.opening.Opening.{Opening}
 use Rattle.bound_solver.specs.declared.sizes.Sizes.{Sizes}
@@ -52,29 +51,32 @@ module _ (g : Ground) (most ids rights : ℕ) (states : List State) (x : Extent)
   pub made_is_of : IsOf b k
   made_is_of = subst (IsOf b) (sym made.pass) (record { table = refl; view = record { live = refl; problem = sym made.problem; layout = refl } })
 
--- behind the sinks of the goals
+  pub swept_are_known : (id : ℕ) → id < x.swept → knows k.view id
+  swept_are_known id below =
+      let there = slice_get-get_or states id [] (let within = listed.within in omega arith) in (made_has id (get_or states id []) there).0
+
+-- once the transitions are kept
 module _ (g : Ground) (sizes : Sizes) (o : Opening) (k : Knowledge) (states : List State) (listed : AreNear g sizes.sweep_states states o.extent)
-    (made : IsMade g (room_for o.extent.depth (length states) sizes.states + sizes.workers) sizes.workers states o.words k) (stays : Stays o.words k o.pass) where
+    (made : IsMade g (room_for o.extent.depth (length states) sizes.states + sizes.workers) sizes.workers states o.words k) (keeps : Keeps o.words k o.pass) where
   has : HasListed states o.pass.view
   has id s there =
       let had = made_has g sizes.sweep_states (room_for o.extent.depth (length states) sizes.states + sizes.workers) sizes.workers states o.extent listed o.words k made id s there in
-      (stays.noted.known id had.0, has_state_more k.view o.pass.view stays.noted id s had.1)
+      (keeps.noted.known id had.0, has_state_more k.view o.pass.view keeps.noted id s had.1)
 
-  pub is_opened : o.pass.view.spare ≡ k.view.spare → ((s : State) (id : ℕ) → IsPlaceOf states s id → IsIdOf o.pass.view s id)
-      → AreKeptStates (IsPlaceOf states) g (arc_value o.near) → length states ≤ sizes.states → arc_value o.index ≡ g
-      → IsOpened g sizes o
-  is_opened spare ids kept few index = record {
+  pub is_opened : o.pass.view.spare ≡ k.view.spare → KeepsStates o.words.problem o.pass.view (arc_value o.near) → length states ≤ sizes.states
+      → arc_value o.index ≡ g → IsOpened g sizes o
+  is_opened spare kept few index = record {
     problem = made.problem;
     states = states;
     listed = listed;
     ids = made.count.0;
     room = (let within = (room_within o.extent.depth (length states) sizes.states few).1 in let count = made.count.0 in omega arith);
-    rights = (made.count.1, stays.rights ∙ ap (λ (l : Knowledge). l.view.rights) made.pass);
-    here = stays.here;
+    rights = (made.count.1, keeps.rights ∙ ap (λ (l : Knowledge). l.view.rights) made.pass);
+    here = keeps.here;
     free = spare ∙ ap (λ (l : Knowledge). l.view.spare) made.pass;
     has = has;
     index = index;
-    near = listed_is_kept g states (arc_value o.near) o.pass.view ids kept;
+    near = subst (λ (p : Ground). KeepsStates p o.pass.view (arc_value o.near)) made.problem kept;
   }
 
 -- the transitions are those of the table's problem

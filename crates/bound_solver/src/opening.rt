@@ -1,23 +1,21 @@
 //! How a search begins.
 
-ghost use Rattle.std.specs.Prelude.{◌≡◌, ◌<◌, ◌≤◌, ◌^◌, ℕ, None, IfOk, List, length};
+ghost use Rattle.std.specs.Prelude.{◌≡◌, ◌≤◌, None, IfOk, List, length};
 ghost use Rattle.std.specs.Arc.{arc_value};
 ghost use Rattle.ground_model.specs.Packed.{State};
 ghost use Rattle.word_table.specs.Seen.{IsOf};
-ghost use Rattle.state_interner.specs.Interned.{IsIdOf};
-ghost use Rattle.kept_transitions.specs.Meaning.{IsPlaceOf};
 ghost use Rattle.bellman_backup.specs.Kept.{KeepsStates};
-ghost use Rattle.trial_workers.specs.Workers.{Stays, HasListed};
+ghost use Rattle.trial_workers.specs.Workers.{HasListed};
 ghost use Rattle.trial_workers.specs.Crews.{IsCrewOf, FirstHas};
 ghost use Rattle.trial_workers.specs.declared.crew.TheConstants.{MOST_WORKERS};
 ghost use Rattle.bound_solver.specs.Opened.{AreSizes, IsOpened, room_for};
 
 use crate::sizes::Sizes;
+use bellman_backup::keep_near;
 use distinct_actions::DistinctActions;
 use ground_model::{GroundProblem, State};
 use kept_transitions::Kept;
-use state_explorer::{Exploration, Explored, explore};
-use state_interner::sink_goal;
+use state_explorer::{Explored, explore};
 use std::alloc::{AllocError, Global};
 use std::sync::Arc;
 use trial_workers::{Crew, Extent};
@@ -38,20 +36,6 @@ pub struct Opening<'p> {
     pub near: Arc<Kept, Global>,
 }
 
-/// Sinks the upper word of each goal among states that have their places as ids.
-fn sink_goals(words: &Words<'_>, pass: &mut Pass, states: &[State])
-    requires here { IsOf words.now pass.old }
-    requires few { length states.now < 2 ^ 32 }
-    requires has { HasListed states.now pass.old.view }
-    ensures stays { Stays words.now pass.old pass.new }
-    ensures spare { pass.new.view.spare ≡ pass.old.view.spare }
-    ensures ids { (s : State) (id : ℕ) → IsPlaceOf states.now s id → IsIdOf pass.new.view s id }
-{
-    for (id, state) in states.iter().enumerate() {
-        sink_goal(words, pass, id as u32, state);
-    }
-}
-
 /// For how many states there is an id: for those that are listed, where these are all that can be reached, and else
 /// for all that the table has room for in any case.
 fn room_for(explored: &Explored, states: u32) -> u32
@@ -65,9 +49,9 @@ fn room_for(explored: &Explored, states: u32) -> u32
     }
 }
 
-/// Lists the states near the starts with their transitions, and makes a table of them with a claim right for each
-/// worker. It has an id for each worker, and one for each of `states`, or for each state that can be reached, where
-/// all of them are listed. It is refused for want of memory alone.
+/// Lists the states near the starts, makes a table of them with a claim right for each worker, and keeps the
+/// transitions of those that are swept. The table has an id for each worker, and one for each of `states`, or for each
+/// state that can be reached, where all of them are listed. It is refused for want of memory alone.
 ///
 /// Rounds are made over the table by a crew that has the pass. Before the crew is made another pass may be split off
 /// without rights (`word_table`'s `split`), for whoever looks on, and be joined behind the last round.
@@ -80,24 +64,23 @@ pub fn open<'p>(
     ensures { IfOk result (IsOpened problem.now sizes.now) }
 {
     let index = Arc::new(alloc, DistinctActions::new(alloc, problem)?)?;
-    let Exploration {
-        explored,
-        transitions,
-    } = explore(alloc, &index, sizes.sweep_states)?;
-    let near = Arc::new(alloc, transitions)?;
+    let explored = explore(alloc, &index, sizes.sweep_states)?;
     let ids = room_for(&explored, sizes.states) + sizes.workers;
     let states = explored.states.as_slice();
     let (words, mut pass) = make(alloc, problem, ids, sizes.workers, states)?;
-    // What is kept of a state that leads to a goal tells that the goal's word is noted.
-    sink_goals(&words, &mut pass, states);
-    // The list ends here: the table has the states.
+    let Explored {
+        states,
+        swept,
+        depth,
+    } = explored;
+    // The list ends here: the table has the states, and what is kept takes the memory.
+    drop(states);
+    let near = keep_near(alloc, &words, &mut pass, &index, swept)?;
+    let near = Arc::new(alloc, near)?;
     Ok(Opening {
         words,
         pass,
-        extent: Extent {
-            swept: explored.swept,
-            depth: explored.depth,
-        },
+        extent: Extent { swept, depth },
         index,
         near,
     })

@@ -11,7 +11,7 @@ use crate::draft::Draft;
 use crate::part::Part;
 use crate::refusal::JointRefusal;
 use exact_fraction::gcd;
-use ground_model::{Choice, Guarded, List, MOST_CHOICE_COST};
+use ground_model::{Choice, Guarded, List, MOST_CHOICE_COST, SharedList};
 use std::alloc::{AllocError, Global};
 
 /// The greatest common divisor of a denominator and of all weights.
@@ -105,7 +105,7 @@ pub fn narrowed(
     drafts: Vec<Draft>,
     base: u64,
     divisor: u64,
-) -> Result<List<Choice>, JointRefusal>
+) -> Result<SharedList<Choice>, JointRefusal>
     requires { 0 < divisor }
     ensures list { IfOk result
         (λ l. l ≡ map (reduced divisor) (map (charged base) drafts.items)) }
@@ -120,5 +120,5 @@ pub fn narrowed(
         }
         narrow.push(narrowed_choice(alloc, draft, base, divisor)?)?;
     }
-    Ok(List::from_vec(narrow))
+    Ok(SharedList::from_vec(narrow)?)
 }

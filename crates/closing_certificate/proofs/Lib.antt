@@ -1,4 +1,5 @@
 pub mod Lists
+pub mod Ones
 pub mod Once
 pub mod AtomSets
 pub mod Insides

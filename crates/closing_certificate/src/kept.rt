@@ -41,7 +41,7 @@ pub(crate) fn kept_rows<'p>(
     requires { All IsShort rows.now }
     ensures { IfOk result (λ kept. kept.items ≡ kept_rows problem.now rows.now) }
 {
-    let mut kept = Vec::new(alloc);
+    let mut kept = Vec::with_capacity(alloc, rows.len())?;
     for row in rows {
         if differs(problem, row) {
             kept.push(KeptRow::new(row))?;

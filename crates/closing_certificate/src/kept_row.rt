@@ -1,6 +1,6 @@
 //! Rows that a certificate keeps.
 
-ghost use Rattle.std.specs.Prelude.{◌≡◌};
+ghost use Rattle.std.specs.Prelude.{◌≡◌, length};
 ghost use Rattle.std.specs.Cmp.{on_equiv, on_per, on_po, on_total, partial_equiv_from_equiv};
 ghost use Rattle.std.specs.Cmp.Lexicographic.{pointwise, nat_list_cmp_total, nat_list_eq_equiv};
 ghost use Rattle.std.specs.Cmp.Lexicographic.{texts_po, texts_ties};
@@ -49,6 +49,17 @@ impl<'p> KeptRow<'p> {
         ensures { result ≡ self.now.atoms }
     {
         true_atoms(&self.row.state)
+    }
+
+    /// How many atoms hold.
+    pub fn atom_count(&self) -> usize
+        ensures { result ≡ length self.now.atoms }
+    {
+        let mut count = 0;
+        for word in self.row.state.words() {
+            count += word.count_ones() as usize;
+        }
+        count
     }
 
     /// The lower number, in micro-units.

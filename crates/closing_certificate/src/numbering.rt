@@ -25,7 +25,17 @@ fn take_places(numbers: &mut Vec<u32>, places: &[u32], row: &KeptRow<'_>) -> Res
     Ok(())
 }
 
-/// The rows by the places of their atoms and acts.
+/// How many atoms hold in all rows, as far as a `usize` goes. No promise rests on it but how much memory
+/// is asked for.
+fn total_atoms(rows: &[KeptRow<'_>]) -> usize {
+    let mut count = 0usize;
+    for row in rows {
+        count = count.saturating_add(row.atom_count());
+    }
+    count
+}
+
+/// The rows by the places of their atoms and acts. Their memory is taken at once, for all their numbers.
 pub(crate) fn numbered_rows(
     alloc: Global,
     problem: &GroundProblem,
@@ -41,7 +51,7 @@ pub(crate) fn numbered_rows(
         ≡ map (numbered_row problem.now places.now acts.now) rows.now) }
 {
     let act_places = places_of_acts(alloc, problem, acts, rows)?;
-    let mut numbered = Rows::new(alloc);
+    let mut numbered = Rows::with_capacity(alloc, rows.len(), total_atoms(rows))?;
     let mut numbers = Vec::new(alloc);
     for row in rows {
         take_places(&mut numbers, places, row)?;

@@ -6,7 +6,9 @@ ghost use Rattle.core_run.specs.Tire as road;
 
 use super::*;
 use fixed_round::UpperWord;
-use ground_model::{Choice, GroundAction, GroundCondition, GroundProblem, Start, State, Text};
+use ground_model::{
+    Choice, GroundAction, GroundCondition, GroundProblem, SharedList, Start, State, Text,
+};
 use std::alloc::{AllocError, Global};
 use std::test::Fail;
 
@@ -44,7 +46,7 @@ fn coin(alloc: Global) -> Result<GroundProblem, AllocError>
     let flip = GroundAction {
         name: Text::from_slice(alloc, b"(flip)")?,
         condition: GroundCondition::True,
-        choices: List::from_vec(sides),
+        choices: SharedList::from_vec(sides)?,
         den: 2,
     };
     let start = Start {
@@ -79,7 +81,7 @@ fn move_car(alloc: Global, name: &[u8], from: u32, to: u32) -> Result<GroundActi
     Ok(GroundAction {
         name: Text::from_slice(alloc, name)?,
         condition: both(alloc, from, 0)?,
-        choices: List::from_vec(Vec::from_array(alloc, [stays, flat])?),
+        choices: SharedList::from_vec(Vec::from_array(alloc, [stays, flat])?)?,
         den: 2,
     })
 }
@@ -91,7 +93,7 @@ fn change_tire(alloc: Global, name: &[u8], spare: u32, car: u32) -> Result<Groun
     Ok(GroundAction {
         name: Text::from_slice(alloc, name)?,
         condition: both(alloc, spare, car)?,
-        choices: List::from_vec(Vec::from_array(alloc, [changes])?),
+        choices: SharedList::from_vec(Vec::from_array(alloc, [changes])?)?,
         den: 1,
     })
 }

@@ -1,5 +1,5 @@
 pub mod Members
 pub mod Repeats
 pub mod Opens
-pub mod Thinned
+pub mod Kept
 pub mod Enough

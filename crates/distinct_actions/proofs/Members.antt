@@ -1,9 +1,8 @@
--- The members of a filtered list, and of the front of a list that rises.
-use Rattle.std.proofs.Common.{◌≡◌, inl, inr, ℕ, ◌<◌, ◌≤◌, Bool, true, cond, List, [], ◌∷◌, length, take, filter, get_or, sym, ap, subst, ◌∙◌, arith}
+-- The members of a filtered list, and of a range.
+use Rattle.std.proofs.Common.{◌≡◌, inl, inr, ℕ, ◌<◌, Bool, true, cond, List, [], ◌∷◌, filter, sym, ap, subst, ◌∙◌, arith}
 use Rattle.std.specs.Prelude.{AllPairs, Contains}
 use Rattle.std.specs.List.{range_with_len}
-use Rattle.std.proofs.lemmas.Bool.{cases_Bool, cases_lt}
-use Rattle.std.proofs.lemmas.List.{length-take, get_or-take, get_or_default}
+use Rattle.std.proofs.lemmas.Bool.{cases_Bool}
 use Rattle.std.proofs.lemmas.List.FromFn.{get_or-range_with_len, length-range_with_len}
 use Rattle.plain_list.proofs.Members.{Contains-first, Contains-later, Contains-cons_cases, Contains-nil}
 
@@ -47,36 +46,3 @@ range_rises a n i j d less below =
     let first = get_or-range_with_len a n i d (omega arith) in
     let second = get_or-range_with_len a n j d (omega arith) in
     omega arith
-
-module _ (xs : List ℕ) (rising : AllPairs (λ (j k : ℕ). j < k) xs) (i d : ℕ) (within : i < length xs) where
-  pub earlier_below : (x : ℕ) → Contains (take i xs) x → x < get_or xs i d
-  earlier_below x inside =
-      let place = inside.0 in
-      let before : place < i = (let long = length-take i xs in let w = inside.1 in omega arith) in
-      let here : get_or xs place x ≡ x = sym (get_or-take i xs place x before) ∙ inside.2 in
-      let less : get_or xs place x < get_or xs i x = rising place i x before within in
-      let same : get_or xs i x ≡ get_or xs i d = get_or_default xs i x d within in
-      omega arith
-
-  not_before : (x place : ℕ) → get_or xs place x ≡ x → place < length xs → i ≤ place → get_or xs i d ≤ x
-  not_before x place here listed behind = elim (cases_lt i place) [
-    | inl later ↦
-        let less : get_or xs i x < get_or xs place x = rising i place x later listed in
-        let same : get_or xs i x ≡ get_or xs i d = get_or_default xs i x d within in
-        omega arith
-    | inr not_later ↦
-        let one : place ≡ i = omega arith in
-        let there : get_or xs i x ≡ x = subst (λ k. get_or xs k x ≡ x) one here in
-        let same : get_or xs i x ≡ get_or xs i d = get_or_default xs i x d within in
-        omega arith
-  ]
-
-  pub earlier_member : (x : ℕ) → Contains xs x → x < get_or xs i d → Contains (take i xs) x
-  earlier_member x inside below = elim (cases_lt inside.0 i) [
-    | inl before ↦ (
-      inside.0,
-      (let long = length-take i xs in let w = inside.1 in omega arith),
-      get_or-take i xs inside.0 x before ∙ inside.2,
-    )
-    | inr behind ↦ absurd (let least = not_before x inside.0 inside.2 inside.1 behind in omega arith)
-  ]

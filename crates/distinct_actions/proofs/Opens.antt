@@ -1,12 +1,10 @@
 -- Which actions are open, and that of two that do the same both are open or none.
-use Rattle.std.proofs.Common.{◌≡◌, ℕ, ◌<◌, ◌≤◌, true, Option, Some, None, List, length, refl, sym, ap, ◌∙◌, arith}
+use Rattle.std.proofs.Common.{◌≡◌, ℕ, ◌<◌, true, Option, Some, None, List, length, refl, sym, ap, ◌∙◌}
 use Rattle.std.specs.Prelude.{AllPairs, Contains}
 use Rattle.std.specs.List.{slice_get, range_with_len}
 use Rattle.std.proofs.lemmas.Bool.{false≢true}
 use Rattle.std.proofs.lemmas.Option.{same_Some, slice_get_within}
-use Rattle.std.proofs.lemmas.List.FromFn.{length-range_with_len}
 use Rattle.std.proofs.lemmas.List.Kept.{AllPairs-filter}
-use Rattle.std.proofs.lemmas.List.Sums.{length-filter, count_by-le-length}
 use Rattle.ground_model.specs.declared.action.GroundAction.{GroundAction}
 use Rattle.ground_model.specs.Packed.{State, has_bit}
 use Rattle.ground_model.specs.Truth.{truth}
@@ -66,12 +64,3 @@ module _ (g : Ground) (s : State) where
       (Contains-range (length g.actions) j (slice_get_within g.actions j like.one like.one_here))
       (ap (λ o. is_open_at o s) like.one_here ∙ ap (truth (has_bit s)) like.same.condition
       ∙ sym (ap (λ o. is_open_at o s) like.other_here) ∙ is_open_there k inside)
-
-  pub opens_at_most : length ((ground_process g).choices s) ≤ length g.actions
-  opens_at_most =
-      omega (
-        arith,
-        length-filter (λ k. is_open g k s) (range_with_len 0 (length g.actions)),
-        count_by-le-length (λ k. is_open g k s) (range_with_len 0 (length g.actions)),
-        length-range_with_len 0 (length g.actions),
-      )

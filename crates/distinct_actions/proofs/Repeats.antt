@@ -1,8 +1,8 @@
 -- Marks that are put one behind another.
-use Rattle.std.proofs.Common.{◌≡◌, inl, inr, ℕ, ◌-◌, ◌<◌, Bool, true, Some, List, [], ◌∷◌, ◌++◌, length, get_or, refl, sym, ap, subst, ◌∙◌, arith}
-use Rattle.std.proofs.lemmas.Bool.{cases_lt}
-use Rattle.std.proofs.lemmas.List.{length_push, get_or_push, get_or_append_left}
-use Rattle.std.proofs.lemmas.Option.{slice_get_within, slice_get-get_or, slice_get_read, get_or_from_slice_get}
+use Rattle.std.proofs.Common.{◌≡◌, inl, inr, ℕ, ◌-◌, ◌<◌, Bool, true, false, List, [], ◌∷◌, ◌++◌, length, get_or, refl, sym, subst, ◌∙◌, arith}
+use Rattle.std.proofs.lemmas.Bool.{cases_lt, false≢true}
+use Rattle.std.proofs.lemmas.List.{length_push, get_or_push, get_or_past, get_or_append_left}
+use Rattle.std.proofs.lemmas.Option.{slice_get_read}
 use Rattle.ground_model.specs.declared.action.GroundAction.{GroundAction}
 use Rattle.distinct_actions.specs.Enough.{DoTheSame, RepeatsLast}
 use Rattle.distinct_actions.specs.Repeats.{AreRepeats}
@@ -10,15 +10,14 @@ use Rattle.distinct_actions.specs.Repeats.{AreRepeats}
 pub repeats_more : (actions : List GroundAction) (marks : List Bool) (mark : Bool) → AreRepeats actions marks
     → (mark ≡ true → RepeatsLast actions (length marks)) → AreRepeats actions (marks ++ mark ∷ [])
 repeats_more actions marks mark are one k marked = elim (cases_lt k (length marks)) [
-  | inl before ↦
-      are k (slice_get-get_or marks k mark before ∙ ap Some (sym (get_or_append_left marks (mark ∷ []) mark k before)
-      ∙ get_or_from_slice_get (marks ++ mark ∷ []) k true mark marked))
-  | inr behind ↦
-      let within = slice_get_within (marks ++ mark ∷ []) k true marked in
-      let long = length_push marks mark in
-      let last : length marks ≡ k = omega arith in
-      subst (RepeatsLast actions) last
-      (one (sym (get_or_push marks mark mark k last) ∙ get_or_from_slice_get (marks ++ mark ∷ []) k true mark marked))
+  | inl before ↦ are k (sym (get_or_append_left marks (mark ∷ []) false k before) ∙ marked)
+  | inr not_before ↦ elim (cases_lt (length marks) k) [
+    | inl past ↦
+        absurd (false≢true (sym (get_or_past (marks ++ mark ∷ []) k false (omega (arith, past, length_push marks mark))) ∙ marked))
+    | inr not_past ↦
+        let last : length marks ≡ k = omega (arith, not_before, not_past) in
+        subst (RepeatsLast actions) last (one (sym (get_or_push marks mark false k last) ∙ marked))
+  ]
 ]
 
 pub repeats_last : (actions : List GroundAction) (code : ℕ) (one other : GroundAction) → 0 < code → code < length actions

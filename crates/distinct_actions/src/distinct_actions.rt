@@ -1,13 +1,13 @@
 //! An index of the actions that are enough.
 
-ghost use Rattle.std.specs.Prelude.{◌≡◌, ◌*◌, ◌<◌, ◌≤◌, ◌^◌, length, take, IfOk, IsTrue};
+ghost use Rattle.std.specs.Prelude.{◌≡◌, ◌*◌, ◌<◌, ◌≤◌, ◌^◌, length, IfOk, IsTrue};
 ghost use Rattle.distinct_actions.specs.Enough.{AreEnough, RepeatsLast};
-ghost use Rattle.distinct_actions.specs.Repeats.{AreRepeats, AreFound, IsThinned};
+ghost use Rattle.distinct_actions.specs.Repeats.{AreRepeats};
 
 use crate::distinct_codes::DistinctCodes;
 use crate::same::do_the_same;
 use ground_model::{GroundAction, GroundProblem, List, State};
-use open_actions::OpenActions;
+use open_actions::ActionIndex;
 use std::alloc::{AllocError, Global};
 use std::marker::Model;
 
@@ -15,9 +15,7 @@ use std::marker::Model;
 /// left out. It is made once, and is read by many at a time. Contracts see the problem.
 #[derive(Drop)]
 pub struct DistinctActions<'p> {
-    index: OpenActions<'p>,
-    /// Of each code, whether its action does the same as the one with the code before.
-    repeats: List<bool>,
+    index: ActionIndex<'p>,
 }
 
 impl<'p> Model for DistinctActions<'p> {
@@ -30,9 +28,9 @@ impl<'p> Model for DistinctActions<'p> {
 
     ghost coded = { Prim.hlevel (codes, of_conditions.the_row.coded) };
 
-    ghost view = { λ d. d.index };
+    ghost view = { λ d. (d.index).problem };
 
-    ghost invariant = { λ d. AreRepeats (d.index).actions d.repeats };
+    ghost invariant = { λ d. AreRepeats ((d.index).problem).actions (d.index).left_out };
 }
 
 /// Of each action, whether it does the same as the one before.
@@ -51,10 +49,9 @@ impl<'p> DistinctActions<'p> {
     pub fn new(alloc: Global, problem: &'p GroundProblem) -> Result<Self, AllocError>
         ensures { IfOk result (λ actions. actions ≡ problem.now) }
     {
-        Ok(DistinctActions {
-            index: OpenActions::new(alloc, problem)?,
-            repeats: repeats_of(alloc, problem.actions())?,
-        })
+        let repeats = repeats_of(alloc, problem.actions())?;
+        let index = ActionIndex::new(alloc, problem, repeats)?;
+        Ok(DistinctActions { index })
     }
 
     /// The problem.
@@ -68,29 +65,7 @@ impl<'p> DistinctActions<'p> {
     pub fn repeats(&self, code: u16) -> bool
         ensures { IsTrue result → RepeatsLast (self.now).actions code }
     {
-        self.repeats
-            .as_slice()
-            .get(code as usize)
-            .copied()
-            .unwrap_or(false)
-    }
-
-    /// Writes those of the found codes whose actions do not repeat the one before, and answers how many they are.
-    fn thin_out(&self, found: &[u16], codes: &mut List<u16>) -> usize
-        requires open_there { AreFound self.now found.now }
-        requires room { length found.now ≤ length codes.old }
-        ensures thinned { IsThinned self.now found.now (take result codes.new) }
-        ensures count { result ≤ length codes.new }
-        ensures room { length codes.new ≡ length codes.old }
-    {
-        let mut count = 0;
-        for code in found {
-            if !self.repeats(*code) {
-                codes.set(count, *code);
-                count += 1;
-            }
-        }
-        count
+        self.index.is_left_out(code)
     }
 
     /// Writes codes of actions that are open in a state, in rising order, so that for each open action there is one
@@ -102,6 +77,5 @@ impl<'p> DistinctActions<'p> {
         ensures room { into.new.room ≡ into.old.room }
     {
         self.index.fill(state, &mut into.open);
-        into.count = self.thin_out(into.open.as_slice(), &mut into.codes);
     }
 }

@@ -1,8 +1,8 @@
-//! Copies of conditions and of choices.
+//! Copies of conditions.
 
 ghost use Rattle.std.specs.Prelude.{◌≡◌, IfOk};
 
-use ground_model::{Boxed, Choice, GroundCondition, Guarded, List};
+use ground_model::{Boxed, GroundCondition, List};
 use std::alloc::{AllocError, Global};
 
 /// The same conditions once more.
@@ -36,6 +36,9 @@ pub(crate) fn copied_condition(
             let copy = copied_condition(alloc, inner.get())?;
             Ok(GroundCondition::Not(Boxed::new(alloc, copy)?))
         }
+        GroundCondition::All(parts) if parts.as_slice().is_empty() => {
+            Ok(GroundCondition::All(List::from_vec(Vec::new(alloc))))
+        }
         GroundCondition::All(parts) => {
             let copies = copied_conditions(alloc, parts.as_slice())?;
             Ok(GroundCondition::All(copies))
@@ -45,58 +48,4 @@ pub(crate) fn copied_condition(
             Ok(GroundCondition::Any(copies))
         }
     }
-}
-
-/// The same atoms once more.
-fn copied_atoms(alloc: Global, atoms: &[u32]) -> Result<List<u32>, AllocError>
-    ensures { IfOk result (λ copies. copies ≡ atoms.now) }
-{
-    Ok(List::from_vec(Vec::from_slice(alloc, atoms)?))
-}
-
-/// The same guarded part once more.
-fn copied_part(alloc: Global, part: &Guarded) -> Result<Guarded, AllocError>
-    ensures { IfOk result (λ copy. copy ≡ part.now) }
-{
-    Ok(Guarded {
-        condition: copied_condition(alloc, &part.condition)?,
-        adds: copied_atoms(alloc, part.adds.as_slice())?,
-        deletes: copied_atoms(alloc, part.deletes.as_slice())?,
-        cost: part.cost,
-    })
-}
-
-/// The same guarded parts once more.
-fn copied_parts(alloc: Global, parts: &[Guarded]) -> Result<List<Guarded>, AllocError>
-    ensures { IfOk result (λ copies. copies ≡ parts.now) }
-{
-    let mut copies = Vec::with_capacity(alloc, parts.len())?;
-    for part in parts {
-        copies.push(copied_part(alloc, part)?)?;
-    }
-    Ok(List::from_vec(copies))
-}
-
-/// The same choice once more.
-fn copied_choice(alloc: Global, choice: &Choice) -> Result<Choice, AllocError>
-    ensures { IfOk result (λ copy. copy ≡ choice.now) }
-{
-    Ok(Choice {
-        weight: choice.weight,
-        cost: choice.cost,
-        adds: copied_atoms(alloc, choice.adds.as_slice())?,
-        deletes: copied_atoms(alloc, choice.deletes.as_slice())?,
-        guarded: copied_parts(alloc, choice.guarded.as_slice())?,
-    })
-}
-
-/// The same choices once more.
-pub(crate) fn copied_choices(alloc: Global, choices: &[Choice]) -> Result<List<Choice>, AllocError>
-    ensures { IfOk result (λ copies. copies ≡ choices.now) }
-{
-    let mut copies = Vec::with_capacity(alloc, choices.len())?;
-    for choice in choices {
-        copies.push(copied_choice(alloc, choice)?)?;
-    }
-    Ok(List::from_vec(copies))
 }

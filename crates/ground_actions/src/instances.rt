@@ -2,7 +2,6 @@
 
 ghost use Rattle.std.specs.Prelude.{◌≡◌, length, IfOk, IfSome};
 ghost use Rattle.std.specs.Option.{option_copied};
-ghost use Rattle.ppddl_model.specs.Steps.{instance_name};
 ghost use Rattle.task_facts.specs.Facts.{table_of};
 ghost use Rattle.kept_bindings.specs.Kept.{IsRow};
 ghost use Rattle.instance_names.specs.Names.{instance_of_row};
@@ -11,17 +10,16 @@ ghost use Rattle.ground_actions.specs.Forming.{IsFine, refusal_of};
 ghost use Rattle.ground_actions.specs.Growing.{action_or_limit, IsAnswerOf};
 ghost use Rattle.ground_actions.specs.Repeating.{under_name, IsLike};
 
-use crate::copying::{copied_choices, copied_condition};
+use crate::copying::copied_condition;
 use crate::forming::{Formed, form_under};
 use ground_conditions::Binding;
-use ground_model::GroundAction;
+use ground_model::{GroundAction, Text};
 use ground_names::Scope;
 use grounding::{GroundRefusal, LimitCode};
-use instance_names::instance_text;
+use instance_names::NameWriter;
 use outcome_dist::{Choices, JointRefusal};
 use ppddl_model::Action;
 use std::alloc::{AllocError, Global};
-use task_facts::TaskFacts;
 
 /// Why an action is not grounded whose choices are refused.
 fn refusal_of(refusal: JointRefusal) -> GroundRefusal
@@ -37,26 +35,28 @@ fn refusal_of(refusal: JointRefusal) -> GroundRefusal
 
 /// The instance of an action whose objects are those of a row as a ground action, with this base cost in
 /// each of its choices, or the first limit on its choices.
-fn ground_action(
+fn ground_action<'x>(
     alloc: Global,
-    facts: &TaskFacts<'_>,
     within: &Binding<'_>,
     base: u64,
     action: &Action,
-    row: &[u32],
+    row: &'x [u32],
+    names: &mut NameWriter<'x>,
 ) -> Result<GroundAction, GroundRefusal>
-    requires named { IsBindingOf facts.now within.now }
-    requires fine { IsFine facts.now action.now }
-    requires row { IsRow (table_of facts.now) (length action.now.params) row.now }
-    ensures { IsAnswerOf result
-        (action_or_limit facts.now base (instance_of_row facts.now action.now row.now)) }
+    requires named { IsBindingOf names.old.task within.now }
+    requires action { names.old.action ≡ action.now }
+    requires fine { IsFine names.old.task names.old.action }
+    requires row { IsRow (table_of names.old.task) (length names.old.action.params) row.now }
+    ensures same { names.new ≡ names.old }
+    ensures answer { IsAnswerOf result (action_or_limit names.old.task base
+        (instance_of_row names.old.task names.old.action row.now)) }
 {
     let params = action.params.as_slice();
     match form_under(alloc, within, base, action, params, row, &Scope::Empty) {
         Ok(formed) => {
             let Formed { condition, choices } = formed;
             let Choices { list, den } = choices;
-            let name = instance_text(alloc, facts, action, row)?;
+            let name = names.text(alloc, row)?;
             Ok(GroundAction {
                 name,
                 condition,
@@ -68,49 +68,44 @@ fn ground_action(
     }
 }
 
-/// A ground action under the name of the instance of an action whose objects are those of a row.
-fn renamed(
-    alloc: Global,
-    facts: &TaskFacts<'_>,
-    action: &Action,
-    row: &[u32],
-    like: &GroundAction,
-) -> Result<GroundAction, AllocError>
-    requires fine { IsFine facts.now action.now }
-    requires row { IsRow (table_of facts.now) (length action.now.params) row.now }
-    ensures { IfOk result
-        (λ x. x ≡ under_name (instance_name (instance_of_row facts.now action.now row.now)) like.now) }
+/// A ground action under another name. It shares its choices with the one that is known.
+fn renamed(alloc: Global, known: &GroundAction, name: Text) -> Result<GroundAction, AllocError>
+    ensures { IfOk result (λ x. x ≡ under_name name known.now) }
 {
-    let text = instance_text(alloc, facts, action, row)?;
     Ok(GroundAction {
-        name: text,
-        condition: copied_condition(alloc, &like.condition)?,
-        choices: copied_choices(alloc, like.choices.as_slice())?,
-        den: like.den,
+        name,
+        condition: copied_condition(alloc, &known.condition)?,
+        choices: known.choices.clone()?,
+        den: known.den,
     })
 }
 
 /// The instance of an action as `ground_action` answers it. Where a ground action is known from which it
 /// differs in its name alone, it is a copy of that one under its own name, and is not formed.
-pub(crate) fn next_action(
+pub(crate) fn next_action<'x>(
     alloc: Global,
-    facts: &TaskFacts<'_>,
     within: &Binding<'_>,
     base: u64,
     action: &Action,
-    row: &[u32],
+    row: &'x [u32],
     like: Option<&GroundAction>,
+    names: &mut NameWriter<'x>,
 ) -> Result<GroundAction, GroundRefusal>
-    requires named { IsBindingOf facts.now within.now }
-    requires fine { IsFine facts.now action.now }
-    requires row { IsRow (table_of facts.now) (length action.now.params) row.now }
+    requires named { IsBindingOf names.old.task within.now }
+    requires action { names.old.action ≡ action.now }
+    requires fine { IsFine names.old.task names.old.action }
+    requires row { IsRow (table_of names.old.task) (length names.old.action.params) row.now }
     requires like { IfSome (option_copied like)
-        (IsLike facts.now base (instance_of_row facts.now action.now row.now)) }
-    ensures { IsAnswerOf result
-        (action_or_limit facts.now base (instance_of_row facts.now action.now row.now)) }
+        (IsLike names.old.task base (instance_of_row names.old.task names.old.action row.now)) }
+    ensures same { names.new ≡ names.old }
+    ensures answer { IsAnswerOf result (action_or_limit names.old.task base
+        (instance_of_row names.old.task names.old.action row.now)) }
 {
     match like {
-        Some(known) => Ok(renamed(alloc, facts, action, row, known)?),
-        None => ground_action(alloc, facts, within, base, action, row),
+        Some(known) => {
+            let name = names.text(alloc, row)?;
+            Ok(renamed(alloc, known, name)?)
+        }
+        None => ground_action(alloc, within, base, action, row, names),
     }
 }

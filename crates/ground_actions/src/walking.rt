@@ -15,6 +15,7 @@ use crate::instances::next_action;
 use ground_conditions::Binding;
 use ground_sizes::effect_size;
 use grounding::GroundRefusal;
+use instance_names::NameWriter;
 use kept_bindings::Rows;
 use named_variables::named_parameters;
 use ppddl_model::Action;
@@ -23,13 +24,13 @@ use task_facts::TaskFacts;
 
 /// Puts the instances of an action, whose objects are those of rows, behind others. One that differs from
 /// the one before in parameters alone that the action does not name is not formed again.
-fn add_action(
+fn add_action<'x>(
     alloc: Global,
-    facts: &TaskFacts<'_>,
+    facts: &'x TaskFacts<'x>,
     within: &Binding<'_>,
     base: u64,
-    action: &Action,
-    rows: &Rows,
+    action: &'x Action,
+    rows: &'x Rows,
     before: Growing,
 ) -> Result<Growing, GroundRefusal>
     requires named { IsBindingOf facts.now within.now }
@@ -40,11 +41,20 @@ fn add_action(
 {
     let effect = effect_size(within.table, &action.effect);
     let named = named_parameters(alloc, action)?;
+    let mut names = NameWriter::new(alloc, facts, action)?;
     let mut grown = before;
     for place in 0..rows.len() {
         grown.room_for(effect)?;
         let like = grown.last_if(agrees_before(named.as_slice(), rows, place));
-        let formed = next_action(alloc, facts, within, base, action, rows.row(place), like)?;
+        let formed = next_action(
+            alloc,
+            within,
+            base,
+            action,
+            rows.row(place),
+            like,
+            &mut names,
+        )?;
         grown = grown.put(formed, effect)?;
     }
     Ok(grown)
@@ -68,7 +78,7 @@ pub(crate) fn add_actions(
 {
     let mut grown = before;
     for (place, action) in actions.iter().enumerate() {
-        grown = add_action(alloc, facts, within, base, action, &kept[place], grown)?;
+        grown = add_action(alloc, &*facts, within, base, action, &kept[place], grown)?;
     }
     Ok(grown)
 }

@@ -5,7 +5,7 @@ ghost use Rattle.ground_model.specs.Coin as example;
 use super::*;
 use ground_model::{
     Boxed, Choice, GroundAction, GroundCondition, GroundProblem, Guarded, List, MOST_CHOICE_COST,
-    Start, State, Text,
+    SharedList, Start, State, Text,
 };
 use std::alloc::{AllocError, Global};
 use std::test::Fail;
@@ -192,7 +192,7 @@ fn coin(alloc: Global) -> Result<GroundProblem, AllocError>
     let flip = GroundAction {
         name: Text::from_slice(alloc, b"(flip)")?,
         condition: GroundCondition::True,
-        choices: List::from_vec(sides),
+        choices: SharedList::from_vec(sides)?,
         den: 2,
     };
     let start = Start {

@@ -1,6 +1,7 @@
 //! The names of ground actions.
 #![tactic(auto)]
 
-mod names;
+mod name_writer;
+mod spelling;
 
-pub use names::instance_text;
+pub use name_writer::NameWriter;

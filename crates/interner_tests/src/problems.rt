@@ -4,7 +4,9 @@ ghost use Rattle.std.specs.Prelude.{◌≡◌, IfOk};
 ghost use Rattle.interner_tests.specs.Switches as many;
 
 use crate::parts::{side, state_of};
-use ground_model::{Choice, GroundAction, GroundCondition, GroundProblem, List, Start, Text};
+use ground_model::{
+    Choice, GroundAction, GroundCondition, GroundProblem, List, SharedList, Start, Text,
+};
 use std::alloc::{AllocError, Global};
 
 /// The atoms of the switches.
@@ -19,14 +21,15 @@ fn switch_atoms(alloc: Global) -> Result<List<Text>, AllocError>
 }
 
 /// The choices of a turn.
-fn turns(alloc: Global) -> Result<List<Choice>, AllocError>
+fn turns(alloc: Global) -> Result<SharedList<Choice>, AllocError>
     ensures { IfOk result (λ choices. choices ≡ many.turns) }
 {
     let mut choices = Vec::new(alloc);
     for switch in 0..15u32 {
         choices.push(side(alloc, &[switch])?)?;
     }
-    Ok(List::from_vec(choices))
+    let turns = SharedList::from_vec(choices)?;
+    Ok(turns)
 }
 
 /// The switches of `specs/Switches.antt`.

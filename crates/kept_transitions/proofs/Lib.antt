@@ -1,2 +1,7 @@
+pub mod Growth
+pub mod IdleChoices
 pub mod Still
-pub mod Stored
+pub mod OfKinds
+pub mod Unpacked
+pub mod Rows
+pub mod Putting

@@ -1,5 +1,5 @@
--- Kept actions, as they are stored.
---     action_of kinds a          the kept action that is stored so
+-- Kept actions, by their kinds.
+--     action_of kinds a          the kept action with the kind in its place
 --     actions_of kinds as        those that are
 --     AreOfKinds kinds as        each of them has a kind
 --     HasKind kinds place code cost
@@ -9,7 +9,7 @@ use Rattle.std.specs.Prelude.{◌≡◌, ℕ, ◌<◌, Some, List, ◌++◌, len
 use Rattle.std.specs.List.{slice_get, All}
 use Rattle.kept_transitions.specs.declared.kept_action.KeptAction.{KeptAction}
 use Rattle.kept_transitions.specs.declared.kind.Kind.{Kind}
-use Rattle.kept_transitions.specs.declared.stored_action.StoredAction.{StoredAction}
+use Rattle.kept_transitions.specs.declared.unpacked_action.UnpackedAction.{UnpackedAction}
 
 abbrev pub no_kind : Kind
 no_kind = record { cost = 0; earlier = 0; code = 0 }
@@ -17,14 +17,14 @@ no_kind = record { cost = 0; earlier = 0; code = 0 }
 abbrev pub of_kind : Kind → ℕ → KeptAction
 of_kind kind first = record { cost = kind.cost; first = first; code = kind.code }
 
-abbrev pub action_of : List Kind → StoredAction → KeptAction
+abbrev pub action_of : List Kind → UnpackedAction → KeptAction
 action_of kinds a = of_kind (get_or kinds a.kind no_kind) a.first
 
-abbrev pub actions_of : List Kind → List StoredAction → List KeptAction
+abbrev pub actions_of : List Kind → List UnpackedAction → List KeptAction
 actions_of kinds = map (action_of kinds)
 
-abbrev pub AreOfKinds : List Kind → List StoredAction → Type 0
-AreOfKinds kinds = All (λ (a : StoredAction). a.kind < length kinds)
+abbrev pub AreOfKinds : List Kind → List UnpackedAction → Type 0
+AreOfKinds kinds = All (λ (a : UnpackedAction). a.kind < length kinds)
 
 pub record HasKind (kinds : List Kind) (place code cost : ℕ) : Type 0 where
   pub kind : Kind

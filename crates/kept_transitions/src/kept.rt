@@ -1,13 +1,15 @@
 //! The arena of kept transitions.
 
-ghost use Rattle.std.specs.Prelude.{◌≡◌, ◌<◌, ◌^◌, Some, length, take, IfOk};
+ghost use Rattle.std.specs.Prelude.{◌≡◌, ◌<◌, Some, length, take, IfOk};
 ghost use Rattle.std.specs.List.{slice_get};
 ghost use Rattle.kept_transitions.specs.Rows.{new_kept, row_of, with_row, AddsId, AddsAction};
 
 use crate::kept_action::KeptAction;
 use crate::kept_row::KeptRow;
 use crate::kinds::Kinds;
-use crate::stored_action::StoredAction;
+use crate::stored_action::MOST_KINDS;
+use crate::stored_actions::StoredActions;
+use crate::unpacked_action::UnpackedAction;
 use std::alloc::{AllocError, Global};
 use std::marker::Model;
 
@@ -23,21 +25,20 @@ const ACTIONS_OF_A_KIND: u32 = 4;
 pub struct Kept {
     rows: Vec<KeptRow>,
     kinds: Kinds,
-    actions: Vec<StoredAction>,
+    actions: StoredActions,
     ids: Vec<u32>,
 }
 
 impl Model for Kept {
-    ghost use Rattle.std.specs.Prelude.{◌<◌, ◌≤◌, ◌^◌, length, vec_capacity};
+    ghost use Rattle.std.specs.Prelude.{length, vec_capacity};
     ghost use Rattle.kept_transitions.specs.Rows.{Transitions, IsRoom};
     ghost use Rattle.kept_transitions.specs.Kinds.{actions_of, AreOfKinds};
 
     ghost Value = { Transitions };
 
-    ghost view = { λ k. record { rows = k.rows.items; actions = actions_of k.kinds k.actions.items; ids = k.ids.items } };
+    ghost view = { λ k. record { rows = k.rows.items; actions = actions_of k.kinds k.actions; ids = k.ids.items } };
 
-    ghost invariant = { λ k. IsRoom (length k.actions.items) (vec_capacity k.actions)
-        × IsRoom (length k.ids.items) (vec_capacity k.ids) × AreOfKinds k.kinds k.actions.items };
+    ghost invariant = { λ k. IsRoom (length k.ids.items) (vec_capacity k.ids) × AreOfKinds k.kinds k.actions };
 }
 
 impl Kept {
@@ -46,10 +47,11 @@ impl Kept {
     pub fn make(alloc: Global, ids: u32, actions: u32, followers: u32) -> Result<Self, AllocError>
         ensures { IfOk result (λ kept. kept ≡ new_kept ids) }
     {
+        let kinds = LEAST_KINDS + actions / ACTIONS_OF_A_KIND;
         Ok(Kept {
             rows: vec![in alloc; KeptRow::UNTRIED; ids as usize]?,
-            kinds: Kinds::make(alloc, LEAST_KINDS + actions / ACTIONS_OF_A_KIND)?,
-            actions: Vec::with_capacity(alloc, actions as usize)?,
+            kinds: Kinds::make(alloc, kinds.min(MOST_KINDS))?,
+            actions: StoredActions::make(alloc, actions)?,
             ids: Vec::with_capacity(alloc, followers as usize)?,
         })
     }
@@ -69,11 +71,11 @@ impl Kept {
         requires { index < length self.now.actions }
         ensures { slice_get self.now.actions index ≡ Some result }
     {
-        let stored = self.actions[index as usize];
-        let kind = self.kinds.kind(stored.kind);
+        let action = self.actions.action(index);
+        let kind = self.kinds.kind(action.kind);
         KeptAction {
             cost: kind.cost,
-            first: stored.first,
+            first: action.first,
             code: kind.code,
         }
     }
@@ -89,7 +91,7 @@ impl Kept {
     pub fn action_count(&self) -> u32
         ensures { result ≡ length self.now.actions }
     {
-        self.actions.len() as u32
+        self.actions.count()
     }
 
     /// How many ids that follow there are.
@@ -114,17 +116,13 @@ impl Kept {
     pub fn push_action(&mut self, action: KeptAction) -> bool
         ensures { AddsAction self.old action result self.new }
     {
-        if self.actions.len() >= self.actions.capacity() {
-            return false;
-        }
         let Some(kind) = self.kinds.place_of(action.code, action.cost) else {
             return false;
         };
-        self.actions.push_reserved(StoredAction {
+        self.actions.push(UnpackedAction {
             kind,
             first: action.first,
-        });
-        true
+        })
     }
 
     /// Drops all but the first actions and the first ids that follow, so many of each.
@@ -133,7 +131,7 @@ impl Kept {
         ensures actions { self.new.actions ≡ take actions self.old.actions }
         ensures ids { self.new.ids ≡ take ids self.old.ids }
     {
-        self.actions.truncate(actions as usize);
+        self.actions.cut(actions);
         self.ids.truncate(ids as usize);
     }
 

@@ -1,19 +1,18 @@
 -- The actions that are marked are the open ones.
-use Rattle.std.proofs.Common.{◌≡◌, ◌⊎◌, ℕ, suc, zero, ◌+◌, ◌-◌, ◌*◌, ◌/◌, ◌%◌, ◌<◌, ◌≤◌, Bool, true, false, cond, ◌||◌, List, [], ◌∷◌, ◌++◌, length, filter, flat_map, refl, sym, ap, subst, inl, inr, ◌∙◌, arith, true≢false}
+use Rattle.std.proofs.Common.{◌≡◌, ◌⊎◌, ℕ, suc, zero, ◌+◌, ◌-◌, ◌*◌, ◌/◌, ◌%◌, ◌<◌, ◌≤◌, Bool, true, false, cond, ◌&&◌, ◌||◌, List, [], ◌∷◌, ◌++◌, length, filter, flat_map, refl, sym, ap, subst, inl, inr, ◌∙◌, arith, true≢false}
 use Rattle.std.specs.Prelude.{nat_eq}
-use Rattle.std.specs.List.{range_with_len, slice_get}
+use Rattle.std.specs.List.{All, range_with_len, slice_get}
 use Rattle.std.specs.Int.{bit_at}
-use Rattle.std.proofs.lemmas.Bool.{cases_Bool, cases_lt, or_cases, eqb-true, eq-eqb}
+use Rattle.std.proofs.lemmas.Bool.{and_parts, cases_Bool, cases_lt, or_cases, eqb-true, eq-eqb}
 use Rattle.std.proofs.lemmas.Nat.Bits.{bit_at-zero}
-use Rattle.std.proofs.lemmas.List.{get_or_past}
-use Rattle.std.proofs.lemmas.List.Elements.{filter-append}
+use Rattle.std.proofs.lemmas.List.{append-nil, get_or_past}
+use Rattle.std.proofs.lemmas.List.Elements.{All-head, All-tail, All-weaker, filter-append}
 use Rattle.std.proofs.lemmas.List.Folds.{list_any-append}
 use Rattle.ground_model.specs.declared.action.GroundAction.{GroundAction}
 use Rattle.ground_model.specs.declared.condition.GroundCondition.{GroundCondition}
 use Rattle.ground_model.specs.Packed.{State, has_bit, packed}
 use Rattle.ground_model.specs.Choices.{is_member}
-use Rattle.ground_model.specs.Ground.{Ground}
-use Rattle.ground_model.specs.Steps.{is_open_at, is_open, ground_process}
+use Rattle.ground_model.specs.Steps.{is_open_at, is_open}
 use Rattle.ground_model.proofs.Packed.{same_packed, length-packed}
 use Rattle.ground_step.specs.Atoms.{true_atoms}
 use Rattle.ground_step.specs.Edits.{with_atom, with_atoms}
@@ -21,7 +20,8 @@ use Rattle.open_actions.specs.declared.entry.Entry.{Entry}
 use Rattle.ground_step.proofs.Packed.{packed_bit}
 use Rattle.ground_step.proofs.Edits.{with_atoms-packed, with_atoms-none}
 use Rattle.ground_step.proofs.Ranges.{filter_alike, range-append}
-use Rattle.open_actions.specs.Index.{codes_of, open_codes, IsIndex}
+use Rattle.open_actions.specs.Index.{opens, HasPlace, codes_of, open_codes, IsEntry, IsIndex}
+use Rattle.open_actions.specs.LeftOut.{Indexed, is_kept, is_kept_open, kept_choices}
 use Rattle.open_actions.specs.Runs.{Runs, run_at}
 
 -- ---- members
@@ -124,92 +124,137 @@ open_within (a ∷ actions) zero s opens = omega arith
 open_within (a ∷ actions) (suc k) s opens =
     (let below : k < length actions = open_within actions k s opens in omega (arith, below))
 
-module _ (g : Ground) (s : State) where
-  abbrev opens : ℕ → Bool
-  opens k = is_open g k s
+module _ (p q : ℕ → Bool) where
+  kept_both : (b : Bool) (x : ℕ) (both first : List ℕ) → both ≡ filter q first
+      → cond (b && q x) (x ∷ both) both ≡ filter q (cond b (x ∷ first) first)
+  kept_both true x both first rest = ap (λ ys. cond (q x) (x ∷ ys) ys) rest
+  kept_both false x both first rest = rest
+
+  -- what passes both tests is what passes the second one of what passes the first
+  filter_both : (xs : List ℕ) → filter (λ x. p x && q x) xs ≡ filter q (filter p xs)
+  filter_both [] = refl
+  filter_both (x ∷ xs) = kept_both (p x) x (filter (λ y. p y && q y) xs) (filter p xs) (filter_both xs)
+
+pub kept_of_none_left_out : (codes : List ℕ) → filter (is_kept []) codes ≡ codes
+kept_of_none_left_out [] = refl
+kept_of_none_left_out (k ∷ codes) = ap (λ ks. k ∷ ks) (kept_of_none_left_out codes)
+
+-- the index that a method sees
+pub seen_index : {index seen : Indexed} {inside read : List GroundCondition} {runs : Runs} → index ≡ seen → read ≡ inside
+    → IsIndex index inside runs → IsIndex seen read runs
+seen_index {index} {seen} {inside} {read} {runs} same here is =
+    subst (λ conditions. IsIndex seen conditions runs) (sym here) (subst (λ i. IsIndex i inside runs) same is)
+
+module _ (index : Indexed) (s : State) where
+  abbrev opens_kept : ℕ → Bool
+  opens_kept k = is_kept_open index k s
+
+  abbrev pub kept_open : List Entry → List ℕ
+  kept_open run = filter opens_kept (codes_of run)
 
   abbrev pub visits : Runs → List ℕ → List ℕ
-  visits runs atoms = flat_map (λ a. open_codes g s (run_at runs a)) atoms
+  visits runs atoms = flat_map (λ a. kept_open (run_at runs a)) atoms
 
-  module _ (conditions : List GroundCondition) (runs : Runs) (is : IsIndex g conditions runs) where
+  module _ (conditions : List GroundCondition) where
+    kept_entry : (b c : Bool) (e : Entry) (es : List Entry) (codes : List ℕ) → b ≡ c → codes_of es ≡ codes
+        → codes_of (cond b (e ∷ es) es) ≡ cond c (e.code ∷ codes) codes
+    kept_entry true c e es codes same rest = ap (λ ks. e.code ∷ ks) rest ∙ ap (λ d. cond d (e.code ∷ codes) codes) same
+    kept_entry false c e es codes same rest = rest ∙ ap (λ d. cond d (e.code ∷ codes) codes) same
+
+    pub entries_open : (run : List Entry) → All (IsEntry index conditions) run → open_codes conditions s run ≡ kept_open run
+    entries_open [] are = refl
+    entries_open (e ∷ run) are =
+        kept_entry (opens conditions e s) (opens_kept e.code) e (filter (λ (f : Entry). opens conditions f s) run) (kept_open run)
+        ((All-head (IsEntry index conditions) e run are).says s)
+        (entries_open run (All-tail (IsEntry index conditions) e run are))
+
+    pub have_places : (run : List Entry) → All (IsEntry index conditions) run → All (HasPlace conditions) run
+    have_places run are = All-weaker (IsEntry index conditions) (HasPlace conditions) (λ e entry. entry.has_place) run are
+
+  module _ (conditions : List GroundCondition) (runs : Runs) (is : IsIndex index conditions runs) where
     marked_is_open : (q : ℕ)
-        → (is_member (visits runs (true_atoms s)) q || is_member (open_codes g s runs.always) q) ≡ opens q
+        → (is_member (visits runs (true_atoms s)) q || is_member (kept_open runs.always) q) ≡ opens_kept q
     marked_is_open q =
         let visited : Bool = is_member (visits runs (true_atoms s)) q in
-        let always : Bool = is_member (open_codes g s runs.always) q in
-        both_ways (visited || always) (opens q)
+        let always : Bool = is_member (kept_open runs.always) q in
+        both_ways (visited || always) (opens_kept q)
         (λ marked. elim (or_cases visited always marked) [
           | inl there ↦
-              flat_passes (λ a. open_codes g s (run_at runs a)) opens q
-              (λ a inside. member_passes opens (codes_of (run_at runs a)) q inside) (true_atoms s) there
-          | inr here ↦ member_passes opens (codes_of runs.always) q here
+              flat_passes (λ a. kept_open (run_at runs a)) opens_kept q
+              (λ a inside. member_passes opens_kept (codes_of (run_at runs a)) q inside) (true_atoms s) there
+          | inr here ↦ member_passes opens_kept (codes_of runs.always) q here
         ])
-        (λ open_here. elim (is.runs_are.found q (open_within g.actions q s open_here)) [
-          | inl here ↦ or_right visited always (passing_member opens (codes_of runs.always) q open_here here)
+        (λ open_here.
+        let parts = and_parts (is_open index.problem q s) (is_kept index.left_out q) open_here in
+        elim (is.found q (open_within index.problem.actions q s parts.0) parts.1) [
+          | inl here ↦ or_right visited always (passing_member opens_kept (codes_of runs.always) q open_here here)
           | inr there ↦
               or_left visited always
-              (flat_member (λ a. open_codes g s (run_at runs a)) q there.0
-              (passing_member opens (codes_of (run_at runs there.0)) q open_here there.1)
-              (true_atoms s) (true_member s there.0 (there.2 s open_here)))
+              (flat_member (λ a. kept_open (run_at runs a)) q there.0
+              (passing_member opens_kept (codes_of (run_at runs there.0)) q open_here there.1)
+              (true_atoms s) (true_member s there.0 (there.2 s parts.0)))
         ])
 
     pub all_marked : (n : ℕ)
-        → with_atoms (with_atoms (packed (λ _. false) n) (open_codes g s runs.always)) (visits runs (true_atoms s))
-        ≡ packed opens n
+        → with_atoms (with_atoms (packed (λ _. false) n) (open_codes conditions s runs.always)) (visits runs (true_atoms s))
+        ≡ packed opens_kept n
     all_marked n =
-        ap (λ marks. with_atoms marks (visits runs (true_atoms s))) (with_atoms-none n (open_codes g s runs.always))
-        ∙ with_atoms-packed (is_member (open_codes g s runs.always)) n (visits runs (true_atoms s))
-        ∙ same_packed (λ q. is_member (visits runs (true_atoms s)) q || is_member (open_codes g s runs.always) q) opens n
+        ap (λ codes. with_atoms (with_atoms (packed (λ _. false) n) codes) (visits runs (true_atoms s)))
+        (entries_open conditions runs.always is.always_are)
+        ∙ ap (λ marks. with_atoms marks (visits runs (true_atoms s))) (with_atoms-none n (kept_open runs.always))
+        ∙ with_atoms-packed (is_member (kept_open runs.always)) n (visits runs (true_atoms s))
+        ∙ same_packed (λ q. is_member (visits runs (true_atoms s)) q || is_member (kept_open runs.always) q) opens_kept n
         (λ q _. marked_is_open q)
 
-  not_open_past : (k : ℕ) → length g.actions ≤ k → opens k ≡ false
-  not_open_past k past = elim (cases_Bool (opens k)) [
+  not_open_past : (k : ℕ) → length index.problem.actions ≤ k → opens_kept k ≡ false
+  not_open_past k past = elim (cases_Bool (opens_kept k)) [
     | inl open_here ↦
-        (let below : k < length g.actions = open_within g.actions k s open_here in absurd (omega (arith, past, below)))
+        let parts = and_parts (is_open index.problem k s) (is_kept index.left_out k) open_here in
+        let below : k < length index.problem.actions = open_within index.problem.actions k s parts.0 in
+        absurd (omega (arith, past, below))
     | inr closed ↦ closed
   ]
 
-  filter_past : (a n : ℕ) → length g.actions ≤ a → filter opens (range_with_len a n) ≡ []
+  filter_past : (a n : ℕ) → length index.problem.actions ≤ a → filter opens_kept (range_with_len a n) ≡ []
   filter_past a zero past = refl
   filter_past a (suc n) past =
-      ap (λ b. cond b (a ∷ filter opens (range_with_len (a + 1) n)) (filter opens (range_with_len (a + 1) n)))
+      ap (λ b. cond b (a ∷ filter opens_kept (range_with_len (a + 1) n)) (filter opens_kept (range_with_len (a + 1) n)))
       (not_open_past a past)
       ∙ filter_past (a + 1) n (omega (arith, past))
 
-  append_none : (xs : List ℕ) → xs ++ [] ≡ xs
-  append_none [] = refl
-  append_none (x ∷ xs) = ap (λ ys. x ∷ ys) (append_none xs)
-
-  pub marked_codes : (marks : State) (n : ℕ) → marks ≡ packed opens n → length g.actions ≤ 64 * n
-      → true_atoms marks ≡ (ground_process g).choices s
+  pub marked_codes : (marks : State) (n : ℕ) → marks ≡ packed opens_kept n → length index.problem.actions ≤ 64 * n
+      → true_atoms marks ≡ kept_choices index s
   marked_codes marks n is room =
-      let m : ℕ = length g.actions in
+      let m : ℕ = length index.problem.actions in
       let split : 64 * n ≡ m + (64 * n - m) = omega (arith, room) in
       ap true_atoms is
-      ∙ ap (λ l. filter (has_bit (packed opens n)) (range_with_len 0 (64 * l))) (length-packed opens n)
-      ∙ filter_alike (has_bit (packed opens n)) opens 0 (64 * n) (λ q _ below. packed_bit opens n q (omega (arith, below)))
-      ∙ ap (λ l. filter opens (range_with_len 0 l)) split
-      ∙ ap (filter opens) (range-append 0 m (64 * n - m))
-      ∙ filter-append opens (range_with_len 0 m) (range_with_len (0 + m) (64 * n - m))
-      ∙ ap (λ qs. filter opens (range_with_len 0 m) ++ qs) (filter_past (0 + m) (64 * n - m) (omega arith))
-      ∙ append_none (filter opens (range_with_len 0 m))
+      ∙ ap (λ l. filter (has_bit (packed opens_kept n)) (range_with_len 0 (64 * l))) (length-packed opens_kept n)
+      ∙ filter_alike (has_bit (packed opens_kept n)) opens_kept 0 (64 * n) (λ q _ below. packed_bit opens_kept n q (omega (arith, below)))
+      ∙ ap (λ l. filter opens_kept (range_with_len 0 l)) split
+      ∙ ap (filter opens_kept) (range-append 0 m (64 * n - m))
+      ∙ filter-append opens_kept (range_with_len 0 m) (range_with_len (0 + m) (64 * n - m))
+      ∙ ap (λ qs. filter opens_kept (range_with_len 0 m) ++ qs) (filter_past (0 + m) (64 * n - m) (omega arith))
+      ∙ append-nil (filter opens_kept (range_with_len 0 m))
+      ∙ filter_both (λ k. is_open index.problem k s) (is_kept index.left_out) (range_with_len 0 m)
 
 with_atoms-append : (marks : State) (xs ys : List ℕ) → with_atoms marks (xs ++ ys) ≡ with_atoms (with_atoms marks xs) ys
 with_atoms-append marks [] ys = refl
 with_atoms-append marks (x ∷ xs) ys = with_atoms-append (with_atom marks x) xs ys
 
-module _ (g : Ground) (s : State) (runs : Runs) where
+module _ (index : Indexed) (s : State) (conditions : List GroundCondition) (runs : Runs) (is : IsIndex index conditions runs) where
   -- one more atom is visited
   pub visit_more : (marks next : State) (run : List Entry) (atom : ℕ) (left atoms : List ℕ)
-      → next ≡ with_atoms marks (open_codes g s run) → run ≡ run_at runs atom → atoms ≡ atom ∷ left
-      → with_atoms next (visits g s runs left) ≡ with_atoms marks (visits g s runs atoms)
-  visit_more marks next run atom left atoms marked is more =
-      ap (λ m. with_atoms m (visits g s runs left)) (marked ∙ ap (λ r. with_atoms marks (open_codes g s r)) is)
-      ∙ sym (with_atoms-append marks (open_codes g s (run_at runs atom)) (visits g s runs left))
-      ∙ ap (λ qs. with_atoms marks (visits g s runs qs)) (sym more)
+      → next ≡ with_atoms marks (open_codes conditions s run) → run ≡ run_at runs atom → atoms ≡ atom ∷ left
+      → with_atoms next (visits index s runs left) ≡ with_atoms marks (visits index s runs atoms)
+  visit_more marks next run atom left atoms marked here more =
+      ap (λ m. with_atoms m (visits index s runs left))
+      (marked ∙ ap (λ r. with_atoms marks (open_codes conditions s r)) here
+      ∙ ap (with_atoms marks) (entries_open index s conditions (run_at runs atom) (is.runs_are atom)))
+      ∙ sym (with_atoms-append marks (kept_open index s (run_at runs atom)) (visits index s runs left))
+      ∙ ap (λ qs. with_atoms marks (visits index s runs qs)) (sym more)
 
   pub visits_end : (marks first : State) (atoms : List ℕ) → atoms ≡ []
-      → with_atoms marks (visits g s runs atoms) ≡ with_atoms first (visits g s runs (true_atoms s))
-      → marks ≡ with_atoms first (visits g s runs (true_atoms s))
+      → with_atoms marks (visits index s runs atoms) ≡ with_atoms first (visits index s runs (true_atoms s))
+      → marks ≡ with_atoms first (visits index s runs (true_atoms s))
   visits_end marks first atoms none marked =
-      sym (ap (λ qs. with_atoms marks (visits g s runs qs)) none) ∙ marked
+      sym (ap (λ qs. with_atoms marks (visits index s runs qs)) none) ∙ marked

@@ -1,3 +1,4 @@
+pub mod LeftOut
 pub mod Masks
 pub mod Runs
 pub mod Index

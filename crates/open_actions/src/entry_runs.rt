@@ -28,7 +28,7 @@ impl EntryRuns {
     pub(crate) fn new(alloc: Global, atoms: usize) -> Result<Self, AllocError>
         ensures { IfOk result (λ runs. runs ≡ no_entries atoms) }
     {
-        let mut by_atom = Vec::new(alloc);
+        let mut by_atom = Vec::with_capacity(alloc, atoms)?;
         for _atom in 0..atoms {
             by_atom.push(Vec::new(alloc))?;
         }

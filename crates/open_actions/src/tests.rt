@@ -3,7 +3,8 @@ ghost use Rattle.ground_model.specs.Coin as example;
 
 use super::*;
 use ground_model::{
-    Boxed, Choice, GroundAction, GroundCondition, GroundProblem, List, Start, State, Text,
+    Boxed, Choice, GroundAction, GroundCondition, GroundProblem, List, SharedList, Start, State,
+    Text,
 };
 use std::alloc::{AllocError, Global};
 use std::test::Fail;
@@ -57,7 +58,7 @@ fn coin(alloc: Global) -> Result<GroundProblem, AllocError>
     let flip = GroundAction {
         name: Text::from_slice(alloc, b"(flip)")?,
         condition: GroundCondition::True,
-        choices: List::from_vec(sides),
+        choices: SharedList::from_vec(sides)?,
         den: 2,
     };
     let start = Start {
@@ -85,5 +86,17 @@ fn the_open_action_of_a_coin_is_found(rt: HostRuntime) -> Result<(), Fail> {
     let mut codes = OpenCodes::new(alloc, &problem)?;
     index.fill(&state_of(alloc, &[0])?, &mut codes);
     assert_eq!(rt; codes.as_slice().len(), 1);
+    Ok(())
+}
+
+#[test]
+fn an_action_that_is_left_out_is_not_found(rt: HostRuntime) -> Result<(), Fail> {
+    let alloc = rt.alloc();
+    let problem = coin(alloc)?;
+    let flip = Vec::from_array(alloc, [true])?;
+    let index = ActionIndex::new(alloc, &problem, List::from_vec(flip))?;
+    let mut codes = OpenCodes::new(alloc, &problem)?;
+    index.fill(&state_of(alloc, &[0])?, &mut codes);
+    assert_eq!(rt; codes.as_slice().len(), 0);
     Ok(())
 }

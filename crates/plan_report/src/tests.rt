@@ -5,7 +5,7 @@ ghost use Rattle.ground_model.specs.Coin as example;
 
 use super::*;
 use ground_model::{
-    Choice, GroundAction, GroundCondition, GroundProblem, List, Start, State, Text,
+    Choice, GroundAction, GroundCondition, GroundProblem, List, SharedList, Start, State, Text,
 };
 use std::alloc::{AllocError, Global};
 use std::test::Fail;
@@ -32,7 +32,7 @@ fn coin(alloc: Global) -> Result<GroundProblem, AllocError>
     let flip = GroundAction {
         name: Text::from_slice(alloc, b"(flip)")?,
         condition: GroundCondition::True,
-        choices: List::from_vec(sides),
+        choices: SharedList::from_vec(sides)?,
         den: 2,
     };
     let start = Start {

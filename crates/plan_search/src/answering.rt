@@ -1,4 +1,4 @@
-//! What comes behind a search: its certificate, the text of this, and the report.
+//! What comes behind a search: its certificate, the report, and the text of the certificate.
 
 ghost use Rattle.std.specs.Prelude.{◌≡◌, ◌⊎◌, IfOk, IfErr};
 ghost use Rattle.closing_certificate.specs.Certificates.{HasNameLists};
@@ -17,7 +17,8 @@ use plan_request::{Effort, Sizes};
 use plan_stop::Stop;
 use std::alloc::{AllocError, Global};
 
-/// What is written and put of what a solver left. The text of the certificate is made before the report.
+/// What is written and put of what a solver left. The text of the certificate is made behind the report,
+/// which is the last that reads the states.
 pub(crate) fn answer_of(
     alloc: Global,
     problem: &GroundProblem,
@@ -35,8 +36,8 @@ pub(crate) fn answer_of(
 {
     let found = found_of(alloc, problem, effort, sizes, closing)?;
     let converged = found.is_within(effort.gap);
-    let certificate = found.text(alloc)?;
     let report = found.report(alloc, problem, effort, sizes)?;
+    let certificate = found.into_text(alloc)?;
     Ok(Answer {
         certificate,
         report,

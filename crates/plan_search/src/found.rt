@@ -70,23 +70,6 @@ impl Found {
         ends.are_within(gap)
     }
 
-    /// The text of the certificate, or the limit that it is above.
-    pub(crate) fn text(&self, alloc: Global) -> Result<Bytes, Stop>
-        requires { self.now.certificate.version ≡ 2 }
-        ensures text { IfOk result (λ text. text ≡ text_of self.now.certificate) }
-        ensures short { IfOk result (λ text. length text ≤ most_bytes 2) }
-        ensures unwritten { IfErr result (IsUnwritten self.now.certificate) }
-    {
-        match write(alloc, &self.certificate) {
-            Ok(text) => Ok(text),
-            Err(WriteRefusal::TooLong) => Err(Stop::Limit {
-                code: CERTIFICATE_LENGTH,
-                most: MOST_BYTES as u64,
-            }),
-            Err(WriteRefusal::Memory) => Err(Stop::NoMemory),
-        }
-    }
-
     /// The report.
     pub(crate) fn report(
         &self,
@@ -111,5 +94,28 @@ impl Found {
             effort.gap,
             self.closing.rounds,
         )
+    }
+
+    /// The text of the certificate, or the limit that it is above.
+    pub(crate) fn into_text(self, alloc: Global) -> Result<Bytes, Stop>
+        requires { self.certificate.version ≡ 2 }
+        ensures text { IfOk result (λ text. text ≡ text_of self.certificate) }
+        ensures short { IfOk result (λ text. length text ≤ most_bytes 2) }
+        ensures unwritten { IfErr result (IsUnwritten self.certificate) }
+    {
+        let Found {
+            closing,
+            certificate,
+        } = self;
+        // The states end here: the text takes their memory.
+        drop(closing);
+        match write(alloc, &certificate) {
+            Ok(text) => Ok(text),
+            Err(WriteRefusal::TooLong) => Err(Stop::Limit {
+                code: CERTIFICATE_LENGTH,
+                most: MOST_BYTES as u64,
+            }),
+            Err(WriteRefusal::Memory) => Err(Stop::NoMemory),
+        }
     }
 }

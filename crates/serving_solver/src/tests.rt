@@ -6,7 +6,7 @@ ghost use Rattle.ground_model.specs.Coin as example;
 use crate::serve;
 use bound_solver::{Effort, Sizes};
 use ground_model::{
-    Choice, GroundAction, GroundCondition, GroundProblem, List, Start, State, Text,
+    Choice, GroundAction, GroundCondition, GroundProblem, List, SharedList, Start, State, Text,
 };
 use policy_server::{ServeEnd, Served};
 use shelf_io::{Failed, Gate, MemorySink, MemorySource, Sink, Source};
@@ -116,7 +116,7 @@ fn coin(alloc: Global) -> Result<GroundProblem, AllocError>
     let flip = GroundAction {
         name: Text::from_slice(alloc, b"(flip)")?,
         condition: GroundCondition::True,
-        choices: List::from_vec(sides),
+        choices: SharedList::from_vec(sides)?,
         den: 2,
     };
     let start = Start {

@@ -1,16 +1,13 @@
--- What the answer says of the levels and of what is kept.
-use Rattle.std.proofs.Common.{◌≡◌, ◌≢◌, ℕ, suc, ◌+◌, ◌≤◌, ◌<◌, List, length, Result, Ok, Err, Option, slice_index_or, refl, sym, ap, ◌∙◌, subst, arith}
+-- What the answer says of the levels.
+use Rattle.std.proofs.Common.{◌≡◌, ◌≢◌, ℕ, suc, ◌+◌, ◌≤◌, ◌<◌, List, length, Result, Ok, Err, Option, slice_index_or, sym, ap, ◌∙◌, subst, arith}
 use Rattle.std.specs.Prelude.{IfOk}
-use Rattle.std.proofs.lemmas.Option.{slice_get_read}
 use Rattle.ground_model.specs.Packed.{State, words_for}
 use Rattle.ground_model.specs.Ground.{Ground}
 use Rattle.ground_model.specs.Invariant.{IsGroundProblem}
 use Rattle.ground_model.specs.Steps.{ground_process, ground_starts}
-use Rattle.kept_transitions.specs.Rows.{Transitions}
-use Rattle.kept_transitions.specs.Meaning.{IsPlaceOf, AreKeptStates}
-use Rattle.state_explorer.specs.declared.exploration.Exploration.{Exploration}
+use Rattle.state_explorer.specs.declared.explored.Explored.{Explored}
 use Rattle.state_explorer.specs.declared.front.Front.{Front}
-use Rattle.state_explorer.specs.Explored.{AreLevels, IsExploration, IsAnswer}
+use Rattle.state_explorer.specs.Explored.{AreLevels, IsExplored, IsAnswer}
 use Rattle.state_explorer.proofs.Insides.{near_has_length, near_is_short}
 use Rattle.state_explorer.specs.Exploring.{Exploring}
 use Rattle.state_explorer.proofs.ListedLevels.{reaches, deeper}
@@ -19,23 +16,13 @@ pub if_ok : {A E : Type 0} (r : Result A E) (P Q : A → Type 0) → ((x : A) �
 if_ok (Ok x) P Q f h = f x h
 if_ok (Err e) P Q f h = h
 
--- a listed state stands in its place
-pub listed_stands : (l : List State) (s : State) (next : ℕ) → next < length l → slice_index_or l next s ≡ s → IsPlaceOf l s next
-listed_stands l s next within at = slice_get_read l (length l) next s refl within (sym at)
-
 module _ (g : Ground) (most : ℕ) where
-  pub answered : (l : List State) (t : Transitions) (swept : ℕ) (depth : Option ℕ)
-      → AreLevels (ground_process g) (ground_starts g) most l swept depth → AreKeptStates (IsPlaceOf l) g t
-      → (x : Exploration) → IsAnswer l t swept depth x → IsExploration g most x
-  answered l t swept depth are kept x is =
-      let e = x.explored in
-      record {
-        explored = subst (λ s. AreLevels (ground_process g) (ground_starts g) most s e.swept e.depth) (sym is.states)
-            (subst (λ n. AreLevels (ground_process g) (ground_starts g) most l n e.depth) (sym is.swept)
-            (subst (λ d. AreLevels (ground_process g) (ground_starts g) most l swept d) (sym is.depth) are));
-        kept = subst (λ s. AreKeptStates (IsPlaceOf s) g x.transitions) (sym is.states)
-            (subst (AreKeptStates (IsPlaceOf l) g) (sym is.transitions) kept);
-      }
+  pub answered : (l : List State) (swept : ℕ) (depth : Option ℕ) → AreLevels (ground_process g) (ground_starts g) most l swept depth
+      → (e : Explored) → IsAnswer l swept depth e → IsExplored g most e
+  answered l swept depth are e is =
+      subst (λ s. AreLevels (ground_process g) (ground_starts g) most s e.swept e.depth) (sym is.states)
+      (subst (λ n. AreLevels (ground_process g) (ground_starts g) most l n e.depth) (sym is.swept)
+      (subst (λ d. AreLevels (ground_process g) (ground_starts g) most l swept d) (sym is.depth) are))
 
   module _ (next listed : ℕ) (front reached : Front) (l : List State)
       (e : Exploring (ground_process g) (ground_starts g) most next front.level front.depth l) (more : next < listed) (count : listed ≡ length l)

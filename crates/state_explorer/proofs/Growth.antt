@@ -31,6 +31,10 @@ module _ {X : Type 0} (most : ℕ) where
     few = λ h. g.few (f.few h);
   }
 
+  -- what was listed still is
+  pub still_listed : (found a b : List X) (x : X) → Grows most found a b → Contains a x → Contains b x
+  still_listed found a b x f h = subst (λ l. Contains l x) (sym f.is) (Contains-append_left a f.more x h)
+
   -- it is the same by any list that has what was found
   pub grows_same : (found same a b : List X) → ((x : X) → Contains found x ↔ Contains same x) → Grows most found a b → Grows most same a b
   grows_same found same a b alike f = record {

@@ -1,10 +1,7 @@
 pub mod Answered
 pub mod Choices
-pub mod Costs
 pub mod Distinct
 pub mod Growth
 pub mod Insertion
 pub mod Insides
 pub mod ListedLevels
-pub mod Putting
-pub mod Rows

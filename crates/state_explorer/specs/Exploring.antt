@@ -2,8 +2,8 @@
 --     Exploring p starts most next level depth l
 --                                the distinct states of l, at most `most`, the starts first, are near the starts; the first `level` of
 --                                them are those of near depth, and all that follow the first `next` are listed
---     IsUnderWay g most levels   so it is with the process of a ground problem, and what is kept are transitions of listed states
---     HasStopped g most levels   the levels before the front are all that fit, as `AreLevels` says, and so is what is kept
+--     IsUnderWay g most levels   so it is with the process of a ground problem
+--     HasStopped g most levels   the levels before the front are all that fit, as `AreLevels` says
 use Rattle.std.specs.Prelude.{◌≡◌, ◌≢◌, ℕ, suc, ◌+◌, ◌<◌, ◌≤◌, ◌↔◌, Some, List, ◌++◌, length, take, AllPairs, Contains}
 use Rattle.decision_process.specs.Process.{Process, Start}
 use Rattle.decision_process.specs.Levels.{near, successors}
@@ -11,7 +11,6 @@ use Rattle.sweep_levels.specs.Laws.{states_of}
 use Rattle.ground_model.specs.Ground.{Ground}
 use Rattle.ground_model.specs.Invariant.{IsGroundProblem}
 use Rattle.ground_model.specs.Steps.{ground_process, ground_starts}
-use Rattle.kept_transitions.specs.Meaning.{IsPlaceOf, AreKeptStates}
 use Rattle.state_explorer.specs.declared.levels.Levels.{Levels}
 use Rattle.state_explorer.specs.Explored.{AreLevels}
 
@@ -34,9 +33,8 @@ module _ (g : Ground) (most : ℕ) (levels : Levels) where
     pub explores : Exploring (ground_process g) (ground_starts g) most
         levels.next levels.front.level levels.front.depth levels.listing
     pub shallow : levels.front.depth ≤ levels.front.level + 1
-    pub kept : AreKeptStates (IsPlaceOf levels.listing) g levels.keeping.kept
 
-  pub record HasStopped : Type 0 where
-    pub are : AreLevels (ground_process g) (ground_starts g) most
-        levels.listing levels.front.level (Some levels.front.depth)
-    pub kept : AreKeptStates (IsPlaceOf levels.listing) g levels.keeping.kept
+  abbrev pub HasStopped : Type 0
+  HasStopped =
+      AreLevels (ground_process g) (ground_starts g) most
+      levels.listing levels.front.level (Some levels.front.depth)

@@ -1,6 +1,6 @@
 //! Levels that are gone through, state by state.
 
-ghost use Rattle.std.specs.Prelude.{◌≡◌, ◌≢◌, suc, ◌<◌, ◌≤◌, length, map, AllPairs, IfOk, OnOk};
+ghost use Rattle.std.specs.Prelude.{◌≡◌, ◌≢◌, ℕ, suc, ◌<◌, ◌≤◌, length, map, AllPairs, IfOk, OnOk};
 ghost use Rattle.ground_model.specs.declared.limits.TheConstants.{MOST_STARTS};
 ghost use Rattle.ground_model.specs.declared.start.Start as declared;
 ghost use Rattle.state_explorer.specs.declared.explored.TheConstants.{MOST_SWEPT};
@@ -9,7 +9,6 @@ ghost use Rattle.state_explorer.specs.Exploring.{IsUnderWay, HasStopped};
 
 use crate::expanding::expand;
 use crate::front::Front;
-use crate::keeping::Keeping;
 use crate::listing::Listing;
 use crate::scratch::Scratch;
 use distinct_actions::DistinctActions;
@@ -33,8 +32,6 @@ fn list_starts(alloc: Global, starts: &[Start]) -> Result<Listing, AllocError>
 pub(crate) struct Levels {
     /// The listed states.
     pub(crate) listing: Listing,
-    /// What is kept of the transitions of those that are expanded.
-    pub(crate) keeping: Keeping,
     /// The level that is gone through.
     pub(crate) front: Front,
     /// The place of the next state: those before it are expanded.
@@ -42,22 +39,14 @@ pub(crate) struct Levels {
 }
 
 impl Levels {
-    /// The starts are listed, and none is expanded. There is room for the transitions of `most` states.
-    pub(crate) fn new(
-        alloc: Global,
-        problem: &GroundProblem,
-        most: usize,
-    ) -> Result<Self, AllocError>
-        requires enough { MOST_STARTS ≤ most }
-        requires few { most ≤ MOST_SWEPT }
-        ensures { IfOk result (IsUnderWay problem.now most) }
+    /// The starts are listed, and none is expanded.
+    pub(crate) fn new(alloc: Global, problem: &GroundProblem) -> Result<Self, AllocError>
+        ensures { (most : ℕ) → MOST_STARTS ≤ most → IfOk result (IsUnderWay problem.now most) }
     {
-        let keeping = Keeping::new(alloc, most as u32)?;
         let listing = list_starts(alloc, problem.starts())?;
         let level = listing.len();
         Ok(Levels {
             listing,
-            keeping,
             front: Front { level, depth: 1 },
             next: 0,
         })
@@ -84,15 +73,7 @@ impl Levels {
         let listed = self.listing.len();
         self.front = self.front.reach(next, listed);
         let state = self.listing.copy_at(next)?;
-        expand(
-            index,
-            next as u32,
-            &state,
-            scratch,
-            &mut self.listing,
-            &mut self.keeping,
-            most,
-        )?;
+        expand(index, &state, scratch, &mut self.listing, most)?;
         self.next = next + 1;
         Ok(self.listing.len())
     }

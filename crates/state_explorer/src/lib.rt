@@ -2,16 +2,13 @@
 #![tactic(auto)]
 
 mod expanding;
-mod exploration;
 mod explored;
 mod exploring;
 mod front;
-mod keeping;
 mod levels;
 mod listing;
 mod scratch;
 
-pub use exploration::Exploration;
 pub use explored::{Explored, MOST_SWEPT};
 pub use exploring::explore;
 pub use plain_list::List;

@@ -3,7 +3,6 @@
 ghost use Rattle.std.specs.Prelude.{◌≡◌, ◌≢◌, ◌<◌, ◌^◌, [], length, AllPairs, IfOk, OnOk};
 ghost use Rattle.std.specs.List.{slice_index_or};
 ghost use Rattle.ground_model.specs.Packed as packed;
-ghost use Rattle.kept_transitions.specs.Meaning.{IsPlaceOf};
 ghost use Rattle.state_explorer.specs.Found.{IsAdded};
 
 use ground_model::State;
@@ -41,19 +40,18 @@ impl Listing {
         }
     }
 
-    /// Puts a copy of the state behind the others, where it is not listed, and answers its place.
-    pub(crate) fn add(&mut self, state: &State) -> Result<usize, AllocError>
-        ensures added { OnOk result (IsAdded self.old self.new state.now) }
-        ensures place { IfOk result (IsPlaceOf self.new state.now) }
+    /// Puts a copy of the state behind the others, where it is not listed.
+    pub(crate) fn add(&mut self, state: &State) -> Result<(), AllocError>
+        ensures { OnOk result (IsAdded self.old self.new state.now) }
     {
-        if let Some(place) = self.set.get_index_of(state) {
-            return Ok(place);
+        if self.set.contains(state) {
+            return Ok(());
         }
         let copy = state.clone()?;
-        let Ok(added) = self.set.insert_full(copy) else {
+        let Ok(_) = self.set.insert(copy) else {
             return Err(AllocError);
         };
-        Ok(added.0)
+        Ok(())
     }
 
     /// How many states are listed, each of which stands once.

@@ -1,6 +1,6 @@
 -- The buckets of a run, one by one.
 use Rattle.std.proofs.Common.{◌≡◌, ℕ, ◌+◌, ◌*◌, ◌/◌, ◌%◌, ◌<◌, ◌≤◌, cond, nat_eq, [], ◌∷◌, length, Some, None, refl, sym, ap, ◌∙◌, subst, inl, inr, arith}
-use Rattle.std.specs.Prelude.{IsTrue, Contains, Option, flat_map}
+use Rattle.std.specs.Prelude.{IfNone, IsTrue, Contains, Option, flat_map}
 use Rattle.std.proofs.Math.Nat.{mod-add-div, add-mul-mod_self_left}
 use Rattle.std.proofs.lemmas.Bool.{cases_Bool, and_parts, eqb-true}
 use mathlib.Core.Logic.{dite}
@@ -181,3 +181,8 @@ missing_since b old now s w goes missing = record {
   clear = missing.clear;
   none = missing.none;
 }
+
+pub none_since : (b : Board) (old now : Knowledge) (s : State) (found : Option ℕ) (w : View) → GoesOn b old now
+    → IfNone found (IsMissing now.view s w) → IfNone found (IsMissing old.view s w)
+none_since b old now s None w goes told = missing_since b old now s w goes told
+none_since b old now s (Some id) w goes told = told

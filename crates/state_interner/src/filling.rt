@@ -1,6 +1,6 @@
 //! Hints for the states that have ids already.
 
-ghost use Rattle.std.specs.Prelude.{◌<◌};
+ghost use Rattle.std.specs.Prelude.{◌≡◌, ◌<◌};
 ghost use Rattle.word_view.specs.Views.{knows};
 ghost use Rattle.word_table.specs.Seen.{IsOf};
 ghost use Rattle.state_interner.specs.Interned.{GoesOn};
@@ -28,6 +28,7 @@ fn note_bucket(words: &Words<'_>, pass: &mut Pass, bucket: u32, hints: &mut Hint
     requires here { IsOf words.now pass.old }
     requires bucket { bucket < words.now.layout.buckets }
     ensures goes_on { GoesOn words.now pass.old pass.new }
+    ensures spare { pass.new.view.spare ≡ pass.old.view.spare }
 {
     if let Some(id) = load_bucket(words, pass, bucket) {
         let hash = mix_id(words, pass, id);
@@ -39,6 +40,7 @@ fn note_bucket(words: &Words<'_>, pass: &mut Pass, bucket: u32, hints: &mut Hint
 pub(crate) fn fill(words: &Words<'_>, pass: &mut Pass, hints: &mut Hints)
     requires here { IsOf words.now pass.old }
     ensures goes_on { GoesOn words.now pass.old pass.new }
+    ensures spare { pass.new.view.spare ≡ pass.old.view.spare }
 {
     if hints.is_filled() {
         return;

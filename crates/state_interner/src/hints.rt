@@ -28,7 +28,8 @@ pub struct Hints {
 impl Hints {
     /// Hints for the states of so many ids. All memory is taken here, and it is refused for want of memory alone.
     pub fn make(alloc: Global, ids: u32) -> Result<Self, AllocError> {
-        let places = (2 * ids as usize).max(16).next_power_of_two();
+        let ids = ids as usize;
+        let places = (ids + ids / 2).max(16).next_power_of_two();
         Ok(Hints {
             entries: vec![in alloc; 0u32; places]?,
             is_filled: false,

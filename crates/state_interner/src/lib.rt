@@ -22,4 +22,4 @@ pub use goals::sink_goal;
 pub use hints::Hints;
 pub use interned::Interned;
 pub use interning::intern;
-pub use nearing::intern_near;
+pub use nearing::{find_near, intern_near};

@@ -1,11 +1,13 @@
 //! Ids of states, looked for in the buckets where they were found before.
 
-ghost use Rattle.std.specs.Prelude.{◌≡◌, ◌<◌, length, IfSome};
+ghost use Rattle.std.specs.Prelude.{◌≡◌, ◌<◌, length, IfSome, IfNone};
 ghost use Rattle.word_view.specs.Views.{IsReached};
+ghost use Rattle.word_rule.specs.Rule.{IsTable};
 ghost use Rattle.word_table.specs.Seen.{IsOf};
-ghost use Rattle.state_interner.specs.Interned.{GoesOn, HasOwn, InternTells};
+ghost use Rattle.state_interner.specs.Interned.{GoesOn, HasOwn, IsIdOf, IsMissing, InternTells};
 
 use crate::filling::fill;
+use crate::finding::find;
 use crate::goals::sink_goal;
 use crate::hint::Hint;
 use crate::hints::{Hints, MOST_PLACES};
@@ -23,6 +25,7 @@ fn try_bucket(words: &Words<'_>, pass: &mut Pass, bucket: u32, state: &State) ->
     requires here { IsOf words.now pass.old }
     requires state { length state.now ≡ words.now.layout.width }
     ensures goes_on { GoesOn words.now pass.old pass.new }
+    ensures spare { pass.new.view.spare ≡ pass.old.view.spare }
     ensures told { IfSome result (HasOwn pass.new.view state.now) }
 {
     if bucket >= words.buckets() {
@@ -40,6 +43,7 @@ fn find_by_hints(words: &Words<'_>, pass: &mut Pass, state: &State, hints: &Hint
     requires here { IsOf words.now pass.old }
     requires state { length state.now ≡ words.now.layout.width }
     ensures goes_on { GoesOn words.now pass.old pass.new }
+    ensures spare { pass.new.view.spare ≡ pass.old.view.spare }
     ensures told { IfSome result (HasOwn pass.new.view state.now) }
 {
     let mixed = mix_state(state);
@@ -59,10 +63,12 @@ fn find_by_hints(words: &Words<'_>, pass: &mut Pass, state: &State, hints: &Hint
 
 /// The id of a state, where it stands in the first bucket of its run or a hint leads to it. Where states spread well
 /// most stand in their first bucket.
-fn find_near(words: &Words<'_>, pass: &mut Pass, state: &State, hints: &Hints) -> Option<u32>
+fn find_noted(words: &Words<'_>, pass: &mut Pass, state: &State, hints: &Hints) -> Option<u32>
     requires here { IsOf words.now pass.old }
     requires state { length state.now ≡ words.now.layout.width }
+    ensures table { IsTable words.now.problem words.now.layout }
     ensures goes_on { GoesOn words.now pass.old pass.new }
+    ensures spare { pass.new.view.spare ≡ pass.old.view.spare }
     ensures told { IfSome result (HasOwn pass.new.view state.now) }
 {
     let first = (hash(state) % u64::from(words.buckets())) as u32;
@@ -70,6 +76,29 @@ fn find_near(words: &Words<'_>, pass: &mut Pass, state: &State, hints: &Hints) -
         return Some(id);
     }
     find_by_hints(words, pass, state, hints)
+}
+
+/// As `find`, by the first bucket and the hints. Where none of them leads to the state its run is walked. The hints are
+/// filled from the table at their first use.
+pub fn find_near(
+    words: &Words<'_>,
+    pass: &mut Pass,
+    state: &State,
+    hints: &mut Hints,
+) -> Option<u32>
+    requires here { IsOf words.now pass.old }
+    requires state { length state.now ≡ words.now.layout.width }
+    ensures goes_on { GoesOn words.now pass.old pass.new }
+    ensures spare { pass.new.view.spare ≡ pass.old.view.spare }
+    ensures some { IfSome result (λ id. IsIdOf pass.new.view state.now id) }
+    ensures none { IfNone result (IsMissing pass.old.view state.now pass.new.view) }
+{
+    fill(words, pass, hints);
+    if let Some(id) = find_noted(words, pass, state, hints) {
+        sink_goal(words, pass, id, state);
+        return Some(id);
+    }
+    find(words, pass, state)
 }
 
 /// As `intern`, by the first bucket and the hints. Where none of them leads to the state its run is walked, and the
@@ -82,7 +111,7 @@ pub fn intern_near(words: &Words<'_>, pass: &mut Pass, state: &State, hints: &mu
     ensures told { InternTells pass.old.view state.now result pass.new.view }
 {
     fill(words, pass, hints);
-    if let Some(id) = find_near(words, pass, state, hints) {
+    if let Some(id) = find_noted(words, pass, state, hints) {
         sink_goal(words, pass, id, state);
         return Interned::Id(id);
     }

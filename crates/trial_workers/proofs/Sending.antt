@@ -7,6 +7,7 @@ use Rattle.atomic_table.proofs.owned.Table.TheSendSync as table_crosses
 use Rattle.plain_list.proofs.boxed.Boxed.TheSendSync as boxed_crosses
 use Rattle.plain_list.proofs.list.List.TheSendSync as list_crosses
 use Rattle.plain_list.proofs.text.Text.TheSendSync as text_crosses
+use Rattle.shared_list.proofs.shared_list.SharedList.TheSendSync as shared_crosses
 use Rattle.ground_model.proofs.condition.GroundCondition.TheLaws.TheKnot as condition_crosses
 use Rattle.ground_model.proofs.state.State.TheSendSync as state_crosses
 use Rattle.ground_model.proofs.start.Start.TheSendSync as start_crosses
@@ -24,7 +25,7 @@ use Rattle.ground_model.specs.contracts.action.Choice as choice
 use Rattle.ground_model.specs.contracts.action.GroundAction as action
 use Rattle.ground_model.specs.contracts.problem.GroundProblem as problem
 use Rattle.open_actions.specs.contracts.masked.Masked as masked
-use Rattle.open_actions.specs.contracts.open_actions.OpenActions as index
+use Rattle.open_actions.specs.contracts.action_index.ActionIndex as index
 use Rattle.distinct_actions.specs.contracts.distinct_actions.DistinctActions as distinct
 use Rattle.word_table.specs.contracts.words.Words as words
 use Rattle.bellman_backup.specs.contracts.scratch.Scratch as scratch
@@ -41,7 +42,16 @@ hole_sync = condition_crosses.hole_sync-GroundCondition (search sendable) (λ h 
 pub condition_row_sync : IsSync condition.the_row
 condition_row_sync = record { shared = λ x b o. subst (λ s. Common (s b o)) (condition.shr_is x) (hole_sync.shared x b o) }
 
--- ---- a ground problem
+pub condition_send : IsSend (condition.the_field).row
+condition_send = condition_crosses.send-GroundCondition (search sendable) (λ h s. search (sendable, crosses, boxed_crosses.the_send)) (λ h s. search (sendable, crosses, list_crosses.the_send))
+
+-- ---- a ground problem, whose choices are shared
+
+pub guarded_send : IsSend guarded.the_row
+guarded_send = search (sendable, crosses, list_crosses.the_send, condition_send) depth 30
+
+pub choice_send : IsSend choice.the_row
+choice_send = search (sendable, crosses, list_crosses.the_send, guarded_send) depth 30
 
 pub guarded_sync : IsSync guarded.the_row
 guarded_sync = search (sendable, crosses, list_crosses.the_sync, condition_sync) depth 30
@@ -50,7 +60,7 @@ pub choice_sync : IsSync choice.the_row
 choice_sync = search (sendable, crosses, list_crosses.the_sync, guarded_sync) depth 30
 
 pub action_sync : IsSync action.the_row
-action_sync = search (sendable, crosses, list_crosses.the_sync, text_crosses.the_sync, condition_sync, choice_sync) depth 30
+action_sync = search (sendable, crosses, text_crosses.the_sync, shared_crosses.the_sync, condition_sync, choice_send, choice_sync) depth 30
 
 pub problem_sync : IsSync problem.the_row
 problem_sync = search (sendable, crosses, list_crosses.the_sync, text_crosses.the_sync, start_crosses.the_sync, condition_sync, action_sync) depth 30
@@ -70,10 +80,10 @@ pub index_sync : (ℓ : _) → IsSync (index.the_row ℓ)
 index_sync ℓ = search (sendable, crosses, list_crosses.the_sync, runs_cross.the_sync, masked_sync, problem_sync) depth 30
 
 pub distinct_send : (ℓ : _) → IsSend (distinct.the_row ℓ)
-distinct_send ℓ = search (sendable, crosses, list_crosses.the_send, index_send) depth 30
+distinct_send ℓ = search (sendable, crosses, index_send) depth 30
 
 pub distinct_sync : (ℓ : _) → IsSync (distinct.the_row ℓ)
-distinct_sync ℓ = search (sendable, crosses, list_crosses.the_sync, index_sync) depth 30
+distinct_sync ℓ = search (sendable, crosses, index_sync) depth 30
 
 pub scratch_send : (ℓ : _) → IsSend (scratch.the_row ℓ)
 scratch_send ℓ = search (sendable, crosses, distinct_send, distinct_sync, distinct_cross.the_send, state_crosses.the_send, steps_cross.the_send, kept_crosses.the_send, kept_crosses.the_sync, pass_crosses.the_send) depth 40

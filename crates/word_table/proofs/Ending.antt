@@ -4,8 +4,7 @@ use Rattle.std.specs.Prelude.{Option, filter, All, AllPairs, Contains}
 use Rattle.std.specs.List.{range_with_len}
 use Rattle.std.specs.Option.{option_map}
 use Rattle.std.proofs.lemmas.Bool.{cases_Bool, false≢true, eq-eqb, ne_eqb, eqb-true, or_left, or_right}
-use Rattle.std.proofs.lemmas.List.{length-append, length-map, map-append, get_or_append_left}
-use Rattle.std.proofs.Math.Seq.{get_or-append_seam}
+use Rattle.std.proofs.lemmas.List.{length-append, length-map, map-append}
 use Rattle.std.proofs.lemmas.List.Elements.{All-nil, All-append, All-cons, All-contains, filter-append, Contains-push, Contains-append_left}
 use Rattle.std.proofs.lemmas.List.Kept.{AllPairs-filter}
 use Rattle.std.proofs.lemmas.List.FromFn.{length-range_with_len, get_or-range_with_len}
@@ -37,16 +36,6 @@ pub word_at : (ws : List ℕ) (i x : ℕ) → get_elem? ws i ≡ some x → x �
 word_at [] i x there = absurd (some-ne-none x (sym there))
 word_at (y ∷ ys) zero x there = sym (some-injective y x there)
 word_at (y ∷ ys) (suc i) x there = word_at ys i x there
-
-pub all_before : {X : Type 0} (P : X → Type 0) (xs ys : List X) (x : X) → xs ≡ ys ++ x ∷ [] → All P xs → All P ys
-all_before P xs ys x is all k d below =
-    let long = length-append ys (x ∷ []) in
-    subst P (get_or_append_left ys (x ∷ []) d k below) (subst (All P) is all k d (omega arith))
-
-pub all_last : {X : Type 0} (P : X → Type 0) (xs ys : List X) (x : X) → xs ≡ ys ++ x ∷ [] → All P xs → P x
-all_last P xs ys x is all =
-    let long = length-append ys (x ∷ []) in
-    subst P (get_or-append_seam ys x [] x) (subst (All P) is all (length ys) x (omega arith))
 
 -- ---- ids that stand in buckets
 

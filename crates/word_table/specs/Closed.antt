@@ -7,7 +7,8 @@
 --     image_in g l ws            all rows, and how many ids are given out
 --     AreClosed l ws             no more ids are given out, nor stand in buckets, than there are
 --     AreMarked l ws n marks     for each id, whether it stands in one of the first n buckets
---     IsRoom l room              memory for a row of each id, with its state
+--     IsWide l row               the row has a state of as many words as the layout says
+--     IsRoom l room              such a row for each id, and marks that say of no id that it is published
 --     IsRow c id row             the row shows the id's state and its numbers in the core
 --     AreRows c ids rows         the rows show the published ids, in rising order
 --     IsImage b v image          the image shows a sound core of a problem within its limits, in which each id that the pass has a state
@@ -15,8 +16,7 @@
 --                                are at their first numbers; no more ids are given out than the table has, and all but the rights' number
 --                                of them are published
 use Rattle.std.specs.Prelude.{◌≡◌, ◌≢◌, ℕ, zero, suc, ◌+◌, ◌<◌, ◌≤◌, min, Bool, false, ◌||◌, nat_eq, IsTrue, Some}
-use Rattle.std.specs.Prelude.{List, [], length, map, filter, get_or, All, Contains, AllPairs}
-use Rattle.std.specs.Prelude.{vec_len, vec_capacity}
+use Rattle.std.specs.Prelude.{List, length, map, filter, get_or, All, Contains, AllPairs}
 use Rattle.std.specs.List.{slice_get, range_with_len}
 use Rattle.ground_model.specs.Packed.{State}
 use Rattle.ground_model.specs.Ground.{Ground}
@@ -63,11 +63,12 @@ pub record AreMarked (l : Layout) (ws : List ℕ) (n : ℕ) (marks : List Bool) 
   pub long : length marks ≡ l.ids
   pub each : (id : ℕ) → id < l.ids → get_or marks id false ≡ is_held ws n id
 
+abbrev pub IsWide : Layout → ImageRow → Type 0
+IsWide l row = length row.state ≡ l.width
+
 pub record IsRoom (l : Layout) (room : Room) : Type 0 where
-  pub rows : room.rows.items ≡ []
-  pub capacity : l.ids ≤ vec_capacity room.rows
-  pub count : length room.states.items ≡ l.ids
-  pub wide : All (λ words. vec_len words ≡ l.width) room.states.items
+  pub count : length room.rows.items ≡ l.ids
+  pub wide : All (IsWide l) room.rows.items
   pub marks : (ws : List ℕ) → AreMarked l ws 0 room.published.items
 
 -- ---- by the core

@@ -1,11 +1,11 @@
 //! What a table hands out at its end.
 
-ghost use Rattle.std.specs.Prelude.{◌≡◌, ◌<◌, ◌≤◌, ◌+◌, ℕ, [], All, length, vec_len, vec_capacity, IfOk, IfErr};
+ghost use Rattle.std.specs.Prelude.{◌≡◌, ◌<◌, ◌≤◌, ◌+◌, ℕ, All, length, IfOk, IfErr};
 ghost use Rattle.std.specs.Mem.Slots.{slots_items, slots_len, IsFull};
 ghost use Rattle.word_layout.specs.Places.{size, IsLayout};
 ghost use Rattle.word_rule.specs.Words.{word, state_in};
 ghost use Rattle.word_table.specs.Seen.{IsOf};
-ghost use Rattle.word_table.specs.Closed.{AreClosed, AreMarked, IsRoom, IsImage, row_in, rows_in, image_in};
+ghost use Rattle.word_table.specs.Closed.{AreClosed, AreMarked, IsWide, IsRoom, IsImage, row_in, rows_in, image_in};
 
 use crate::making::first_word;
 use crate::pass::Pass;
@@ -18,16 +18,21 @@ use ground_model::{GroundProblem, State};
 use std::alloc::{AllocError, Global};
 use word_layout::Layout;
 
-/// The words of a state, for each id.
-fn blank_states(alloc: Global, layout: Layout) -> Result<Vec<Vec<u64>>, AllocError>
-    ensures count { IfOk result (λ states. length states.items ≡ layout.ids) }
-    ensures wide { IfOk result (λ states. All (λ ws. vec_len ws ≡ layout.width) states.items) }
+/// A row for each id, whose numbers and words are 0.
+fn blank_rows(alloc: Global, layout: Layout) -> Result<Vec<ImageRow>, AllocError>
+    ensures count { IfOk result (λ rows. length rows.items ≡ layout.ids) }
+    ensures wide { IfOk result (λ rows. All (IsWide layout) rows.items) }
 {
-    let mut states = Vec::with_capacity(alloc, layout.ids as usize)?;
+    let mut rows = Vec::with_capacity(alloc, layout.ids as usize)?;
     for _ in 0..layout.ids {
-        states.push(vec![in alloc; 0u64; layout.width as usize]?)?;
+        let words = vec![in alloc; 0u64; layout.width as usize]?;
+        rows.push(ImageRow {
+            state: State::from_words(List::from_vec(words)),
+            lower: 0,
+            upper: UpperWord::from_word(0),
+        })?;
     }
-    Ok(states)
+    Ok(rows)
 }
 
 /// The memory for what a table hands out.
@@ -35,8 +40,7 @@ fn room(alloc: Global, layout: Layout) -> Result<Room, AllocError>
     ensures { IfOk result (λ room. IsRoom layout room) }
 {
     Ok(Room {
-        rows: Vec::with_capacity(alloc, layout.ids as usize)?,
-        states: blank_states(alloc, layout)?,
+        rows: blank_rows(alloc, layout)?,
         published: vec![in alloc; false; layout.ids as usize]?,
     })
 }
@@ -49,40 +53,36 @@ fn word(closed: &Closed<(), Global>, place: usize) -> u64
     closed.word(place)
 }
 
-/// The state of an id.
-fn read_state(closed: &Closed<(), Global>, layout: Layout, id: u32, mut words: Vec<u64>) -> State
+/// Writes the state of an id over another one.
+fn read_state(closed: &Closed<(), Global>, layout: Layout, id: u32, state: &mut State)
     requires layout { IsLayout layout × (id < layout.ids) }
     requires full { IsFull closed.now.words × (slots_len closed.now.words ≡ size layout) }
-    requires words { vec_len words ≡ layout.width }
-    ensures { result ≡ state_in layout (slots_items closed.now.words) id }
+    requires wide { length state.old ≡ layout.width }
+    ensures { state.new ≡ state_in layout (slots_items closed.now.words) id }
 {
     for place in 0..layout.width {
-        words[place as usize] = word(closed, layout.state_word(id, place));
+        state.set_word(place as usize, word(closed, layout.state_word(id, place)));
     }
-    State::from_words(List::from_vec(words))
 }
 
-/// The row of an id.
+/// Writes the row of an id over another one.
 fn read_row(
     problem: &GroundProblem,
     closed: &Closed<(), Global>,
     layout: Layout,
     id: u32,
-    words: Vec<u64>,
-) -> ImageRow
+    row: &mut ImageRow,
+)
     requires layout { IsLayout layout × (id < layout.ids) }
     requires full { IsFull closed.now.words × (slots_len closed.now.words ≡ size layout) }
-    requires words { vec_len words ≡ layout.width }
-    ensures { result ≡ row_in problem.now layout (slots_items closed.now.words) id }
+    requires wide { IsWide layout row.old }
+    ensures { row.new ≡ row_in problem.now layout (slots_items closed.now.words) id }
 {
-    let state = read_state(closed, layout, id, words);
-    let first = first_word(problem, &state);
+    read_state(closed, layout, id, &mut row.state);
+    let first = first_word(problem, &row.state);
     let found = UpperWord::from_word(word(closed, layout.upper(id)));
-    ImageRow {
-        state,
-        lower: word(closed, layout.lower(id)),
-        upper: if first.is_below(found) { first } else { found },
-    }
+    row.lower = word(closed, layout.lower(id));
+    row.upper = if first.is_below(found) { first } else { found };
 }
 
 /// Which ids stand in a bucket.
@@ -106,32 +106,29 @@ fn mark_published(
     published
 }
 
-/// The rows of the ids that are published, in rising order.
+/// The rows of the ids that are published, in rising order, over the first of these rows.
 fn read_rows(
     problem: &GroundProblem,
     closed: &Closed<(), Global>,
     layout: Layout,
     published: &[bool],
-    mut states: Vec<Vec<u64>>,
     mut rows: Vec<ImageRow>,
 ) -> Vec<ImageRow>
     requires layout { IsLayout layout }
     requires full { IsFull closed.now.words × (slots_len closed.now.words ≡ size layout) }
     requires marks { AreMarked layout (slots_items closed.now.words) layout.buckets published.now }
-    requires count { length states.items ≡ layout.ids }
-    requires wide { All (λ words. vec_len words ≡ layout.width) states.items }
-    requires rows { (rows.items ≡ []) × (layout.ids ≤ vec_capacity rows) }
+    requires count { length rows.items ≡ layout.ids }
+    requires wide { All (IsWide layout) rows.items }
     ensures { result.items ≡ rows_in problem.now layout (slots_items closed.now.words) layout.ids }
 {
+    let mut count = 0;
     for id in 0..layout.ids {
-        if !published[id as usize] {
-            continue;
+        if published[id as usize] {
+            read_row(problem, closed, layout, id, &mut rows[count]);
+            count += 1;
         }
-        let Some(words) = states.pop() else {
-            unreachable!()
-        };
-        rows.push_reserved(read_row(problem, closed, layout, id, words));
     }
+    rows.truncate(count);
     rows
 }
 
@@ -148,13 +145,9 @@ fn read_image(
     requires room { IsRoom layout room }
     ensures { result ≡ image_in problem.now layout (slots_items closed.now.words) }
 {
-    let Room {
-        rows,
-        states,
-        published,
-    } = room;
+    let Room { rows, published } = room;
     let published = mark_published(closed, layout, published);
-    let rows = read_rows(problem, closed, layout, published.as_slice(), states, rows);
+    let rows = read_rows(problem, closed, layout, published.as_slice(), rows);
     Image {
         rows: List::from_vec(rows),
         given_out: word(closed, 0) as u32,

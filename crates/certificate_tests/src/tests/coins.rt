@@ -5,7 +5,7 @@ ghost use Rattle.ground_model.specs.Coin as example;
 ghost use Rattle.certificate_tests.specs.Examples as examples;
 
 use ground_model::{
-    Choice, GroundAction, GroundCondition, GroundProblem, List, Start, State, Text,
+    Choice, GroundAction, GroundCondition, GroundProblem, List, SharedList, Start, State, Text,
 };
 use std::alloc::{AllocError, Global};
 
@@ -38,7 +38,7 @@ pub(super) fn coin(alloc: Global) -> Result<GroundProblem, AllocError>
     let flip = GroundAction {
         name: Text::from_slice(alloc, b"(flip)")?,
         condition: GroundCondition::True,
-        choices: List::from_vec(sides),
+        choices: SharedList::from_vec(sides)?,
         den: 2,
     };
     let start = Start {
@@ -66,7 +66,7 @@ pub(super) fn sure_coin(alloc: Global) -> Result<GroundProblem, AllocError>
     let turn = GroundAction {
         name: Text::from_slice(alloc, b"(flip)")?,
         condition: GroundCondition::True,
-        choices: List::from_vec(sides),
+        choices: SharedList::from_vec(sides)?,
         den: 1,
     };
     let heads = Start {

@@ -1,111 +1,84 @@
-use Rattle.std.proofs.Common.{◌≡◌, ◌/◌, min, length, take, sym, ap, ◌∙◌, subst, arith}
+use Rattle.std.proofs.Common.{◌≡◌, ◌/◌, min, take, sym, ap, ◌∙◌, subst, arith}
 use Rattle.std.specs.Int.{div_ceil}
 use Rattle.fixed_round.specs.Words.{word_of}
-use Rattle.ground_model.specs.Ground.{Ground}
 use Rattle.ground_model.specs.Invariant.{IsGroundProblem}
 use Rattle.brtdp_trial.specs.Listed.{last_in}
 use Rattle.bellman_backup.specs.Kept.{IsKeptAction}
 use Rattle.bellman_backup.specs.Odds.{odds_of}
-use Rattle.bellman_backup.proofs.PlacedWeights.{odds_at, odds_within}
-use Rattle.bellman_backup.proofs.KeptReads.{is_inside, is_own_at, is_action_at, chosen_goes_on, chosen_ends}
+use Rattle.bellman_backup.proofs.PlacedWeights.{odds_at}
+use Rattle.bellman_backup.proofs.KeptReads.{is_inside, chosen_goes_on, chosen_ends}
+use Rattle.bellman_backup.proofs.OwnActions.{own_code_is_small, own_code_is_inside, own_has_odds, own_odds, own_action, own_is_kept_in}
 use Rattle.bellman_backup.proofs.Finishing.{word_within}
 use Rattle.bellman_backup.proofs.recalling.best_of_kept.Goals as goal
 
-pub action-own-requires : goal.action-own-requires
-action-own-requires c =
-    is_inside c.args.words.now c.args.pass.now c.requires.kept.0 c.args.kept.now c.args.row c.loop-index.index c.requires.kept.1
+pub action-entry-requires : goal.action-entry-requires
+action-entry-requires c =
+    is_inside c.args.words.now c.args.pass.now c.requires.kept.0 c.args.own c.args.kept.now c.args.row c.loop-index.index c.requires.kept.1
     (let q = c.loop-index-test.true in omega arith)
 
 pub overflow_cast-action : goal.overflow_cast-action
 overflow_cast-action c =
-    let b = c.args.words.now in let t = c.args.kept.now in let row = c.args.row in let i = c.loop-index.index in let own = c.action-own.result in
-    let is = is_own_at b c.args.pass.now c.loop-index.pass c.requires.kept.0 t row i own c.loop-index.invariant.keeps.noted c.requires.kept.1
-    (let q = c.loop-index-test.true in omega arith) c.action-own.ensures in
-    let problem : IsGroundProblem b.problem = subst IsGroundProblem c.problem-problem.ensures c.penalty-penalty.ensures.valid in
-    let few = problem.actions_count in let coded = is.coded in omega arith
+    let small = own_code_is_small c.args.words.now c.args.pass.now c.loop-index.pass c.args.own c.args.kept.now c.args.row
+    c.requires.kept c.loop-index.invariant.keeps.noted
+    c.problem-problem.result.now c.problem-problem.ensures c.penalty-penalty.ensures.valid c.loop-index.index (let q = c.loop-index-test.true in omega arith)
+    c.action-entry.result c.action-entry.ensures in omega arith
 
-pub offset_bounds-actions-own : goal.offset_bounds-actions-own
-offset_bounds-actions-own c =
-    let b = c.args.words.now in let t = c.args.kept.now in let row = c.args.row in let i = c.loop-index.index in let own = c.action-own.result in
-    let is = is_own_at b c.args.pass.now c.loop-index.pass c.requires.kept.0 t row i own c.loop-index.invariant.keeps.noted c.requires.kept.1
-    (let q = c.loop-index-test.true in omega arith) c.action-own.ensures in
-    let problem : IsGroundProblem b.problem = subst IsGroundProblem c.problem-problem.ensures c.penalty-penalty.ensures.valid in
-    let few = problem.actions_count in let coded = is.coded in omega arith
+pub offset_bounds-actions-entry : goal.offset_bounds-actions-entry
+offset_bounds-actions-entry c =
+    let small = own_code_is_small c.args.words.now c.args.pass.now c.loop-index.pass c.args.own c.args.kept.now c.args.row
+    c.requires.kept c.loop-index.invariant.keeps.noted
+    c.problem-problem.result.now c.problem-problem.ensures c.penalty-penalty.ensures.valid c.loop-index.index (let q = c.loop-index-test.true in omega arith)
+    c.action-entry.result c.action-entry.ensures in omega arith
 
-pub bounds-actions-own : goal.bounds-actions-own
-bounds-actions-own c =
-    let b = c.args.words.now in let t = c.args.kept.now in let row = c.args.row in let i = c.loop-index.index in let own = c.action-own.result in
-    let is = is_own_at b c.args.pass.now c.loop-index.pass c.requires.kept.0 t row i own c.loop-index.invariant.keeps.noted c.requires.kept.1
-    (let q = c.loop-index-test.true in omega arith) c.action-own.ensures in
-    let same : c.actions.result.now ≡ b.problem.actions
-    = c.actions.ensures.value ∙ ap (λ (p : Ground). p.actions) c.problem-problem.ensures in
-    let n = ap length same in let coded = is.coded in omega arith
+pub bounds-actions-entry : goal.bounds-actions-entry
+bounds-actions-entry c =
+    own_code_is_inside c.args.words.now c.args.pass.now c.loop-index.pass c.args.own c.args.kept.now c.args.row c.requires.kept c.loop-index.invariant.keeps.noted
+    c.problem-problem.result.now c.problem-problem.ensures c.penalty-penalty.ensures.valid c.loop-index.index (let q = c.loop-index-test.true in omega arith)
+    c.action-entry.result c.action-entry.ensures c.actions.result.now c.actions.ensures.value
 
-pub weights-shares-requires : goal.weights-shares-requires
-weights-shares-requires c =
-    let b = c.args.words.now in let l = c.loop-index.pass in let s = c.requires.kept.0 in
-    let t = c.args.kept.now in let row = c.args.row in let i = c.loop-index.index in let own = c.action-own.result in
-    let is = is_own_at b c.args.pass.now l s t row i own c.loop-index.invariant.keeps.noted c.requires.kept.1
-    (let q = c.loop-index-test.true in omega arith) c.action-own.ensures in
-    odds_within b.problem.actions c.args.weights.now c.requires.weights own.code is.coded
+pub shares-shares-requires : goal.shares-shares-requires
+shares-shares-requires c =
+    own_has_odds c.args.words.now c.args.pass.now c.loop-index.pass c.args.own c.args.kept.now c.args.row c.requires.kept c.loop-index.invariant.keeps.noted
+    c.problem-problem.result.now c.problem-problem.ensures c.penalty-penalty.ensures.valid c.loop-index.index (let q = c.loop-index-test.true in omega arith)
+    c.action-entry.result c.action-entry.ensures c.args.weights.now c.requires.weights
 
-pub read_kept-sums-requires-clause-weights : goal.read_kept-sums-requires-clause-weights
-read_kept-sums-requires-clause-weights c =
-    let b = c.args.words.now in let l = c.loop-index.pass in let s = c.requires.kept.0 in
-    let t = c.args.kept.now in let row = c.args.row in let i = c.loop-index.index in let own = c.action-own.result in
-    let is = is_own_at b c.args.pass.now l s t row i own c.loop-index.invariant.keeps.noted c.requires.kept.1
-    (let q = c.loop-index-test.true in omega arith) c.action-own.ensures in
-    let problem : IsGroundProblem b.problem = subst IsGroundProblem c.problem-problem.ensures c.penalty-penalty.ensures.valid in
-    let same : c.actions.result.now ≡ b.problem.actions
-    = c.actions.ensures.value ∙ ap (λ (p : Ground). p.actions) c.problem-problem.ensures in
-    let a = c.index-actions-own.result in
-    let at = is_action_at b l s t row i own is problem c.actions.result.now same a c.index-actions-own.is in
-    c.weights-shares.ensures (odds_of a) (odds_at b.problem.actions c.args.weights.now c.requires.weights own.code a at.coded)
+pub read_kept-sums-requires-clause-shares : goal.read_kept-sums-requires-clause-shares
+read_kept-sums-requires-clause-shares c =
+    c.shares-shares.ensures (odds_of c.index-actions-entry.result)
+    (own_odds c.args.words.now c.args.pass.now c.loop-index.pass c.args.own c.args.kept.now c.args.row c.requires.kept c.loop-index.invariant.keeps.noted
+    c.problem-problem.result.now c.problem-problem.ensures c.penalty-penalty.ensures.valid c.loop-index.index (let q = c.loop-index-test.true in omega arith)
+    c.action-entry.result c.action-entry.ensures
+    c.actions.result.now c.actions.ensures.value c.index-actions-entry.result c.index-actions-entry.is c.args.weights.now c.requires.weights)
 
 pub den-requires : goal.den-requires
 den-requires c =
-    let b = c.args.words.now in let l = c.loop-index.pass in let s = c.requires.kept.0 in
-    let t = c.args.kept.now in let row = c.args.row in let i = c.loop-index.index in let own = c.action-own.result in
-    let is = is_own_at b c.args.pass.now l s t row i own c.loop-index.invariant.keeps.noted c.requires.kept.1
-    (let q = c.loop-index-test.true in omega arith) c.action-own.ensures in
-    odds_within b.problem.actions c.args.weights.now c.requires.weights own.code is.coded
+    own_has_odds c.args.words.now c.args.pass.now c.loop-index.pass c.args.own c.args.kept.now c.args.row c.requires.kept c.loop-index.invariant.keeps.noted
+    c.problem-problem.result.now c.problem-problem.ensures c.penalty-penalty.ensures.valid c.loop-index.index (let q = c.loop-index-test.true in omega arith)
+    c.action-entry.result c.action-entry.ensures c.args.weights.now c.requires.weights
 
 pub read_kept-sums-requires-clause-action : goal.read_kept-sums-requires-clause-action
 read_kept-sums-requires-clause-action c =
-    let b = c.args.words.now in let l = c.loop-index.pass in let s = c.requires.kept.0 in
-    let t = c.args.kept.now in let row = c.args.row in let i = c.loop-index.index in let own = c.action-own.result in
-    let is = is_own_at b c.args.pass.now l s t row i own c.loop-index.invariant.keeps.noted c.requires.kept.1
-    (let q = c.loop-index-test.true in omega arith) c.action-own.ensures in
-    let problem : IsGroundProblem b.problem = subst IsGroundProblem c.problem-problem.ensures c.penalty-penalty.ensures.valid in
-    let same : c.actions.result.now ≡ b.problem.actions
-    = c.actions.ensures.value ∙ ap (λ (p : Ground). p.actions) c.problem-problem.ensures in
-    (is_action_at b l s t row i own is problem c.actions.result.now same c.index-actions-own.result c.index-actions-own.is).is
+    (own_action c.args.words.now c.args.pass.now c.loop-index.pass c.args.own c.args.kept.now c.args.row c.requires.kept c.loop-index.invariant.keeps.noted
+    c.problem-problem.result.now c.problem-problem.ensures c.penalty-penalty.ensures.valid c.loop-index.index (let q = c.loop-index-test.true in omega arith)
+    c.action-entry.result c.action-entry.ensures
+    c.actions.result.now c.actions.ensures.value c.index-actions-entry.result c.index-actions-entry.is).is
 
 pub read_kept-sums-requires-clause-kept : goal.read_kept-sums-requires-clause-kept
 read_kept-sums-requires-clause-kept c =
-    let b = c.args.words.now in let l = c.loop-index.pass in let s = c.requires.kept.0 in
-    let t = c.args.kept.now in let row = c.args.row in let i = c.loop-index.index in let own = c.action-own.result in
-    let is = is_own_at b c.args.pass.now l s t row i own c.loop-index.invariant.keeps.noted c.requires.kept.1
-    (let q = c.loop-index-test.true in omega arith) c.action-own.ensures in
-    let problem : IsGroundProblem b.problem = subst IsGroundProblem c.problem-problem.ensures c.penalty-penalty.ensures.valid in
-    let same : c.actions.result.now ≡ b.problem.actions
-    = c.actions.ensures.value ∙ ap (λ (p : Ground). p.actions) c.problem-problem.ensures in
-    let a = c.index-actions-own.result in
-    let at = is_action_at b l s t row i own is problem c.actions.result.now same a c.index-actions-own.is in
-    (s, subst (λ zs. IsKeptAction l.view s zs a own) (sym c.ids.ensures) at.kept)
+    own_is_kept_in c.args.words.now c.args.pass.now c.loop-index.pass c.args.own c.args.kept.now c.args.row c.requires.kept c.loop-index.invariant.keeps.noted
+    c.problem-problem.result.now c.problem-problem.ensures c.penalty-penalty.ensures.valid c.loop-index.index (let q = c.loop-index-test.true in omega arith)
+    c.action-entry.result c.action-entry.ensures
+    c.actions.result.now c.actions.ensures.value c.index-actions-entry.result c.index-actions-entry.is c.ids.result.now c.ids.ensures
 
 pub take_in-best-requires-clause-den : goal.take_in-best-requires-clause-den
 take_in-best-requires-clause-den c =
-    let b = c.args.words.now in let l = c.loop-index.pass in let s = c.requires.kept.0 in
-    let t = c.args.kept.now in let row = c.args.row in let i = c.loop-index.index in let own = c.action-own.result in
-    let is = is_own_at b c.args.pass.now l s t row i own c.loop-index.invariant.keeps.noted c.requires.kept.1
-    (let q = c.loop-index-test.true in omega arith) c.action-own.ensures in
-    let problem : IsGroundProblem b.problem = subst IsGroundProblem c.problem-problem.ensures c.penalty-penalty.ensures.valid in
-    let same : c.actions.result.now ≡ b.problem.actions
-    = c.actions.ensures.value ∙ ap (λ (p : Ground). p.actions) c.problem-problem.ensures in
-    let a = c.index-actions-own.result in
-    let at = is_action_at b l s t row i own is problem c.actions.result.now same a c.index-actions-own.is in
-    let den : c.den.result ≡ a.den = c.den.ensures (odds_of a) (odds_at b.problem.actions c.args.weights.now c.requires.weights own.code a at.coded) in
+    let a = c.index-actions-entry.result in
+    let at = own_action c.args.words.now c.args.pass.now c.loop-index.pass c.args.own c.args.kept.now c.args.row c.requires.kept c.loop-index.invariant.keeps.noted
+    c.problem-problem.result.now c.problem-problem.ensures c.penalty-penalty.ensures.valid c.loop-index.index (let q = c.loop-index-test.true in omega arith)
+    c.action-entry.result c.action-entry.ensures
+    c.actions.result.now c.actions.ensures.value c.index-actions-entry.result c.index-actions-entry.is in
+    let den : c.den.result ≡ a.den = c.den.ensures (odds_of a)
+    (odds_at c.args.words.now.problem.actions c.args.weights.now c.requires.weights c.action-entry.result.code a at.coded) in
     let above = at.is.weights.den_above in omega arith
 
 pub take_in-best-requires-clause-bound : goal.take_in-best-requires-clause-bound
@@ -117,24 +90,20 @@ take_in-best-requires-clause-bound c =
 
 pub loop-index-preserved : goal.loop-index-preserved
 loop-index-preserved c =
-    let b = c.args.words.now in let g = b.problem in let k = c.args.pass.now in let l = c.loop-index.pass in let s = c.requires.kept.0 in
-    let t = c.args.kept.now in let row = c.args.row in let i = c.loop-index.index in let own = c.action-own.result in
-    let is = is_own_at b k l s t row i own c.loop-index.invariant.keeps.noted c.requires.kept.1
-    (let q = c.loop-index-test.true in omega arith) c.action-own.ensures in
-    let problem : IsGroundProblem g = subst IsGroundProblem c.problem-problem.ensures c.penalty-penalty.ensures.valid in
-    let same : c.actions.result.now ≡ g.actions
-    = c.actions.ensures.value ∙ ap (λ (p : Ground). p.actions) c.problem-problem.ensures in
-    let a = c.index-actions-own.result in
-    let at = is_action_at b l s t row i own is problem c.actions.result.now same a c.index-actions-own.is in
-    let den : c.den.result ≡ a.den = c.den.ensures (odds_of a) (odds_at g.actions c.args.weights.now c.requires.weights own.code a at.coded) in
+    let b = c.args.words.now in let l = c.loop-index.pass in let action = c.action-entry.result in let a = c.index-actions-entry.result in
+    let at = own_action c.args.words.now c.args.pass.now c.loop-index.pass c.args.own c.args.kept.now c.args.row c.requires.kept c.loop-index.invariant.keeps.noted
+    c.problem-problem.result.now c.problem-problem.ensures c.penalty-penalty.ensures.valid c.loop-index.index (let q = c.loop-index-test.true in omega arith)
+    c.action-entry.result c.action-entry.ensures
+    c.actions.result.now c.actions.ensures.value c.index-actions-entry.result c.index-actions-entry.is in
+    let den : c.den.result ≡ a.den = c.den.ensures (odds_of a) (odds_at b.problem.actions c.args.weights.now c.requires.weights action.code a at.coded) in
     let d = c.take_in-best.ensures in
-    chosen_goes_on b k l c.read_kept-sums.new.pass t row c.loop-index.chosen c.take_in-best.new.chosen c.read_kept-sums.new.steps c.loop-index.best c.take_in-best.result i own a
-    c.read_kept-sums.result c.loop-index.invariant c.read_kept-sums.ensures.keeps
-    (let q = c.loop-index-test.true in omega arith) is.here at.coded
-    (λ z kept. c.read_kept-sums.ensures.read z (subst (λ zs. IsKeptAction l.view z zs a own) (sym c.ids.ensures) kept))
+    chosen_goes_on b c.args.pass.now l c.read_kept-sums.new.pass c.args.own c.args.kept.now c.args.row c.loop-index.chosen c.take_in-best.new.chosen
+    c.read_kept-sums.new.steps c.loop-index.best c.take_in-best.result c.loop-index.index action a c.read_kept-sums.result c.loop-index.invariant
+    c.read_kept-sums.ensures.keeps (let q = c.loop-index-test.true in omega arith) c.action-entry.ensures at.coded
+    (λ z kept. c.read_kept-sums.ensures.read z (subst (λ zs. IsKeptAction l.view z c.args.own zs a action) (sym c.ids.ensures) kept))
     (d.lower ∙ ap (λ n. min (c.read_kept-sums.result.lower / n) c.loop-index.best.lower) den)
-    (d.word ∙ ap (λ n. min (word_of (div_ceil c.read_kept-sums.result.upper n) own.code) c.loop-index.best.word) den)
-    (λ better. d.better better ∙ ap (λ n. last_in own.code n c.read_kept-sums.new.steps) den) d.same
+    (d.word ∙ ap (λ n. min (word_of (div_ceil c.read_kept-sums.result.upper n) action.code) c.loop-index.best.word) den)
+    (λ better. d.better better ∙ ap (λ n. last_in action.code n c.read_kept-sums.new.steps) den) d.same
 
 pub returns-clause-problem : goal.returns-clause-problem
 returns-clause-problem c = subst IsGroundProblem c.problem-problem.ensures c.penalty-penalty.ensures.valid
@@ -142,5 +111,5 @@ returns-clause-problem c = subst IsGroundProblem c.problem-problem.ensures c.pen
 pub returns-clause-best : goal.returns-clause-best
 returns-clause-best c =
     let q = c.loop-index-test.false in
-    chosen_ends c.args.words.now c.args.pass.now c.loop-index.pass c.args.kept.now c.args.row c.loop-index.chosen c.loop-index.best c.loop-index.index
+    chosen_ends c.args.words.now c.args.pass.now c.loop-index.pass c.args.own c.args.kept.now c.args.row c.loop-index.chosen c.loop-index.best c.loop-index.index
     c.loop-index.invariant (omega arith)

@@ -3,4 +3,4 @@ use Rattle.bellman_backup.proofs.KeptReads.{KeptChosen}
 use Rattle.bellman_backup.proofs.recalling.best_of_kept.Given as goal
 
 abbrev pub invariant-loop-index : goal.invariant-loop-index
-invariant-loop-index l = KeptChosen l.words l.initial.pass l.pass l.kept l.row l.chosen l.best l.index
+invariant-loop-index l = KeptChosen l.words l.initial.pass l.pass l.own l.kept l.row l.chosen l.best l.index

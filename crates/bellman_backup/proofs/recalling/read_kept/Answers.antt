@@ -1,61 +1,52 @@
-use Rattle.std.proofs.Common.{ℕ, ◌+◌, get_or, refl, sym, subst, arith}
-use Rattle.ground_model.specs.Packed.{State}
-use Rattle.state_interner.specs.Interned.{IsIdOf}
-use Rattle.bellman_backup.specs.Totals.{HasReadNext}
-use Rattle.bellman_backup.proofs.TransitionsKept.{take_all}
-use Rattle.bellman_backup.proofs.PlacedWeights.{choice_at, weights_long}
-use Rattle.bellman_backup.proofs.KeptReads.{is_choice_at, choice_is_small, kept_begins, kept_goes_on, kept_ends}
+use Rattle.std.proofs.Common.{◌+◌, ◌≤◌, refl, sym, ap, subst, arith}
+use Rattle.std.proofs.lemmas.List.{take_all}
+use Rattle.bellman_backup.proofs.PlacedWeights.{shares_long}
+use Rattle.bellman_backup.proofs.KeptReads.{kept_begins, at_most_one, id_is_inside, id_is_known, choice_is_small, kept_goes_on, kept_ends}
 use Rattle.bellman_backup.proofs.recalling.read_kept.Goals as goal
 
-pub loop-index-init : goal.loop-index-init
-loop-index-init c =
+pub loop-share-init : goal.loop-share-init
+loop-share-init c =
     let cost = c.from-cost.ensures in let fits = c.fits-kept in
-    kept_begins c.args.words.now c.args.pass.now c.args.ids.now c.args.action.now c.args.kept.now c.clear.new.self
-    (record { lower = c.from-cost.result; upper = c.from-cost.result }) c.requires.here c.clear.ensures cost cost (omega arith)
+    kept_begins c.args.words.now c.args.pass.now c.args.own c.args.ids.now c.args.action.now c.args.kept.now c.clear.new.self
+    (record { lower = c.from-cost.result; upper = c.from-cost.result }) c.args.kept.now.first c.requires.here c.clear.ensures cost cost (omega arith) refl
 
-pub bounds-ids-kept : goal.bounds-ids-kept
-bounds-ids-kept c =
-    let a = c.args.action.now in let i = c.loop-index.index in
-    let x = choice_at a c.args.weights.now c.requires.weights i (let t = c.loop-index-test.true in omega arith) in
-    (is_choice_at c.args.pass.now.view c.loop-index.pass.view c.requires.kept.0 c.args.ids.now c.args.action.now c.args.kept.now c.requires.kept.1
-    c.loop-index.invariant.keeps.noted a.choices refl i x.2 x.0 x.1).inside
+pub id_in-id-requires : goal.id_in-id-requires
+id_in-id-requires c =
+    id_is_inside c.args.words.now c.args.pass.now c.loop-share.pass c.args.own c.args.ids.now c.args.action.now c.args.kept.now
+    c.loop-share.steps c.loop-share.sums c.loop-share.place c.loop-share.share-index c.loop-share.invariant c.requires.kept.0 c.requires.kept.1
+    c.args.shares.now c.requires.shares c.loop-share-test.true
+
+pub overflow_add-place : goal.overflow_add-place
+overflow_add-place c =
+    let room = c.loop-share.invariant.place_room in let fits = c.fits-kept in let count = c.requires.action.count in let below = c.loop-share-test.true in
+    let one : c.from-place.result ≤ 1 = subst (λ n. n ≤ 1) (sym c.from-place.ensures) (at_most_one _) in
+    let long = shares_long c.args.action.now c.args.shares.now c.requires.shares in omega arith
 
 pub read_id-step-requires-clause-known : goal.read_id-step-requires-clause-known
 read_id-step-requires-clause-known c =
-    let a = c.args.action.now in let i = c.loop-index.index in
-    let x = choice_at a c.args.weights.now c.requires.weights i (let t = c.loop-index-test.true in omega arith) in
-    (is_choice_at c.args.pass.now.view c.loop-index.pass.view c.requires.kept.0 c.args.ids.now c.args.action.now c.args.kept.now c.requires.kept.1
-    c.loop-index.invariant.keeps.noted a.choices refl i x.2 x.0 x.1).known
+    id_is_known c.args.words.now c.args.pass.now c.loop-share.pass c.args.own c.args.ids.now c.args.action.now c.args.kept.now
+    c.loop-share.steps c.loop-share.sums c.loop-share.place c.loop-share.share-index c.loop-share.invariant c.requires.kept.0 c.requires.kept.1
+    c.args.shares.now c.requires.shares c.loop-share-test.true c.id_in-id.result c.id_in-id.ensures
 
 pub with-sums-requires-clause-small : goal.with-sums-requires-clause-small
 with-sums-requires-clause-small c =
-    let b = c.args.words.now in let k = c.args.pass.now in let l = c.loop-index.pass in let m = c.read_id-step.new.pass in
-    let ids = c.args.ids.now in let a = c.args.action.now in let kept = c.args.kept.now in let s = c.requires.kept.0 in let is = c.requires.kept.1 in
-    let i = c.loop-index.index in let step = c.read_id-step.result in
-    let x = choice_at a c.args.weights.now c.requires.weights i (let t = c.loop-index-test.true in omega arith) in
-    let later = c.loop-index.invariant.keeps.noted in
-    let at = is_choice_at k.view l.view s ids a kept is later a.choices refl i x.2 x.0 x.1 in
-    let read : (t : State) → IsIdOf l.view t (get_or ids (kept.first + i) 0) → HasReadNext b.problem l.view m.view t x.0.weight step =
-    λ t its. subst (λ (w : ℕ). HasReadNext b.problem l.view m.view t w step) (sym x.3) (c.read_id-step.ensures.read t its) in
-    choice_is_small b k l m s ids a kept i x.0 step c.requires.action c.requires.penalty is later at read
+    choice_is_small c.args.words.now c.args.pass.now c.loop-share.pass c.args.own c.args.ids.now c.args.action.now c.args.kept.now
+    c.loop-share.steps c.loop-share.sums c.loop-share.place c.loop-share.share-index c.loop-share.invariant c.requires.kept.0 c.requires.kept.1
+    c.args.shares.now c.requires.shares c.loop-share-test.true c.id_in-id.result c.id_in-id.ensures
+    c.read_id-step.new.pass c.read_id-step.result c.requires.action c.requires.penalty c.read_id-step.ensures.read
 
-pub loop-index-preserved : goal.loop-index-preserved
-loop-index-preserved c =
-    let b = c.args.words.now in let k = c.args.pass.now in let l = c.loop-index.pass in let m = c.read_id-step.new.pass in
-    let ids = c.args.ids.now in let a = c.args.action.now in let kept = c.args.kept.now in let s = c.requires.kept.0 in let is = c.requires.kept.1 in
-    let i = c.loop-index.index in let step = c.read_id-step.result in
-    let x = choice_at a c.args.weights.now c.requires.weights i (let t = c.loop-index-test.true in omega arith) in
-    let so = c.loop-index.invariant in let later = so.keeps.noted in
-    let at = is_choice_at k.view l.view s ids a kept is later a.choices refl i x.2 x.0 x.1 in
-    let read : (t : State) → IsIdOf l.view t (get_or ids (kept.first + i) 0) → HasReadNext b.problem l.view m.view t x.0.weight step =
-    λ t its. subst (λ (w : ℕ). HasReadNext b.problem l.view m.view t w step) (sym x.3) (c.read_id-step.ensures.read t its) in
-    let small = choice_is_small b k l m s ids a kept i x.0 step c.requires.action c.requires.penalty is later at read in
-    kept_goes_on b k l m ids a kept c.loop-index.steps c.push.new.self c.loop-index.sums c.with-sums.result i (get_or ids (kept.first + i) 0) x.0 step so
-    at.here at.so_far at.at c.read_id-step.ensures.keeps read small c.with-sums.ensures.lower c.with-sums.ensures.upper c.push.ensures
+pub loop-share-preserved : goal.loop-share-preserved
+loop-share-preserved c =
+    kept_goes_on c.args.words.now c.args.pass.now c.loop-share.pass c.args.own c.args.ids.now c.args.action.now c.args.kept.now
+    c.loop-share.steps c.loop-share.sums c.loop-share.place c.loop-share.share-index c.loop-share.invariant c.requires.kept.0 c.requires.kept.1
+    c.args.shares.now c.requires.shares c.loop-share-test.true c.id_in-id.result c.id_in-id.ensures
+    c.read_id-step.new.pass c.read_id-step.result c.requires.action c.requires.penalty c.read_id-step.ensures.read
+    c.read_id-step.ensures.keeps c.push.new.self c.with-sums.result (c.loop-share.place + c.from-place.result) (ap (λ n. c.loop-share.place + n) c.from-place.ensures)
+    c.with-sums.ensures.lower c.with-sums.ensures.upper c.push.ensures
 
 pub returns-clause-read : goal.returns-clause-read
 returns-clause-read c = λ s is.
-    let a = c.args.action.now in let i = c.loop-index.index in
-    let end = c.loop-index-test.false in let long = weights_long a c.args.weights.now c.requires.weights in
-    kept_ends c.args.words.now c.args.pass.now c.loop-index.pass c.args.ids.now a c.args.kept.now c.loop-index.steps c.loop-index.sums i c.loop-index.invariant
-    (take_all a.choices i (omega arith)) s is
+    let a = c.args.action.now in let i = c.loop-share.share-index in
+    let end = c.loop-share-test.false in let long = shares_long a c.args.shares.now c.requires.shares in
+    kept_ends c.args.words.now c.args.pass.now c.loop-share.pass c.args.own c.args.ids.now a c.args.kept.now c.loop-share.steps c.loop-share.sums c.loop-share.place i
+    c.loop-share.invariant (take_all i a.choices (omega arith)) s is

@@ -19,6 +19,7 @@ loop-place-preserved c =
     = noted_more l.view.words id c.loop-place.into place x inside i.noted in record {
       keeps = keeps_again b k l m i.keeps (keeps_word b l m id place x i.keeps.here seen);
       loads = ap (λ (n : Knowledge). n.view.loads) seen ∙ i.loads;
+      spare = ap (λ (n : Knowledge). n.view.spare) seen ∙ i.spare;
       long = (let e = ap length c.set_word.ensures in omega (arith, length-set {A = ℕ}));
       noted = subst (λ (n : Knowledge). AreNoted n.view.words id c.set_word.new.self (place + 1)) (sym seen)
           (subst (λ (s : List ℕ). AreNoted (with_state_word l.view id place x).words id s (place + 1)) (sym c.set_word.ensures) more);

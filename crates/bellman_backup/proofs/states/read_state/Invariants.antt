@@ -10,6 +10,7 @@ abbrev pub invariant-loop-place : goal.invariant-loop-place
 invariant-loop-place l = record {
   keeps : Keeps l.words l.initial.pass l.pass;
   loads : l.pass.view.loads ≡ l.initial.pass.view.loads;
+  spare : l.pass.view.spare ≡ l.initial.pass.view.spare;
   long : length l.into ≡ width l.words.problem;
   noted : AreNoted l.pass.view.words l.id l.into l.place;
   one : 0 < l.place → HasOneState l.pass.view;

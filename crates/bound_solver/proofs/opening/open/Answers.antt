@@ -1,16 +1,15 @@
-use Rattle.std.proofs.Common.{◌≡◌, ℕ, ◌+◌, ◌<◌, ◌≤◌, ◌^◌, Option, List, length, sym, subst, arith, rules}
+use Rattle.std.proofs.Common.{◌≡◌, ℕ, ◌+◌, ◌≤◌, Option, List, length, sym, subst, arith, rules}
 use Rattle.ground_model.specs.Packed.{State}
 use Rattle.ground_model.specs.Ground.{Ground}
 use Rattle.word_table.specs.Made.{AreFirst, IsMade}
 use Rattle.word_table.specs.Seen.{Board, Knowledge}
-use Rattle.kept_transitions.specs.Meaning.{AreKeptStates, IsPlaceOf}
-use Rattle.state_interner.specs.Interned.{IsIdOf}
+use Rattle.bellman_backup.specs.Kept.{KeepsStates}
 use Rattle.state_explorer.specs.declared.explored.Explored.{Explored}
 use Rattle.trial_workers.specs.declared.extent.Extent.{Extent}
-use Rattle.trial_workers.specs.Workers.{HasListed}
 use Rattle.trial_workers.specs.Crews.{AreNear}
-use Rattle.bound_solver.specs.Opened.{room_for}
-use Rattle.bound_solver.proofs.Listing.{room_within, listed_are_first, made_has, made_is_of, is_opened}
+use Rattle.bound_solver.specs.declared.sizes.Sizes.{Sizes}
+use Rattle.bound_solver.specs.Opened.{AreSizes, room_for}
+use Rattle.bound_solver.proofs.Listing.{room_within, listed_are_first, made_is_of, swept_are_known, is_opened}
 use Rattle.bound_solver.proofs.opening.open.Goals as goal
 
 abbrev extent_of : Explored → Extent
@@ -26,55 +25,48 @@ made_of : (g : Ground) (workers : ℕ) (states ss : List State) (b : Board) (k :
 made_of g workers states ss b k room n same is made =
     subst (λ (l : List State). IsMade g (room + workers) workers l b k) same (subst (λ m. IsMade g (m + workers) workers ss b k) is made)
 
+-- what was listed is of the index's problem
+near_of : (g p : Ground) (most : ℕ) (x : Explored) → p ≡ g → AreNear p most x.states (extent_of x) → AreNear g most x.states (extent_of x)
+near_of g p most x is = subst (λ (q : Ground). AreNear q most x.states (extent_of x)) is
+
+few_listed : (g : Ground) (sizes : Sizes) (x : Explored) → AreNear g sizes.sweep_states x.states (extent_of x) → AreSizes sizes → length x.states ≤ sizes.states
+few_listed g sizes x near are = let few = near.few in let room = are.room in omega arith
+
 pub make-requires-clause-states : goal.make-requires-clause-states
 make-requires-clause-states c =
-    let g = c.args.problem.now in let sizes = c.args.sizes.now in let x = c.in_ok-explored.field-0.explored in
-    let is : c.deref.result.now ≡ g = search rules in
-    let near = subst (λ (p : Ground). AreNear p sizes.sweep_states x.states (extent_of x)) is c.in_ok-explored.ensures.explored in
-    let few : length x.states ≤ sizes.states = (let f = c.in_ok-explored.ensures.explored.few in let room = c.requires.room in omega arith) in
+    let g = c.args.problem.now in let sizes = c.args.sizes.now in let x = c.in_ok-explored.explored in
+    let near = near_of g c.deref.result.now sizes.sweep_states x (search rules) c.in_ok-explored.ensures in
+    let few = few_listed g sizes x near c.requires in
     subst (AreFirst g (c.room_for.result + sizes.workers)) (sym c.as_slice-states.ensures)
     (listed_are_first g sizes.sweep_states (c.room_for.result + sizes.workers) x.states (extent_of x) near
     (few_ids x.depth (length x.states) sizes.states sizes.workers c.room_for.result c.room_for.ensures few))
 
-pub sink_goals-requires-clause-few : goal.sink_goals-requires-clause-few
-sink_goals-requires-clause-few c =
-    let few = c.in_ok-explored.ensures.explored.few in let room = c.requires.room in let most = c.requires.few in
-    subst (λ (ss : List State). length ss < 2 ^ 32) (sym c.as_slice-states.ensures) (omega arith)
-
-pub sink_goals-requires-clause-here : goal.sink_goals-requires-clause-here
-sink_goals-requires-clause-here c =
-    let g = c.args.problem.now in let sizes = c.args.sizes.now in let x = c.in_ok-explored.field-0.explored in
-    let is : c.deref.result.now ≡ g = search rules in
-    let near = subst (λ (p : Ground). AreNear p sizes.sweep_states x.states (extent_of x)) is c.in_ok-explored.ensures.explored in
+pub keep_near-requires-clause-here : goal.keep_near-requires-clause-here
+keep_near-requires-clause-here c =
+    let g = c.args.problem.now in let sizes = c.args.sizes.now in let x = c.in_ok-explored.explored in
+    let near = near_of g c.deref.result.now sizes.sweep_states x (search rules) c.in_ok-explored.ensures in
     let b = c.in_ok-words.words in let k = c.in_ok-words.pass in
     made_is_of g sizes.sweep_states (room_for x.depth (length x.states) sizes.states + sizes.workers) sizes.workers x.states (extent_of x) near b k
     (made_of g sizes.workers x.states c.as_slice-states.result.now b k (room_for x.depth (length x.states) sizes.states) c.room_for.result c.as_slice-states.ensures c.room_for.ensures
     c.in_ok-words.ensures)
 
-pub sink_goals-requires-clause-has : goal.sink_goals-requires-clause-has
-sink_goals-requires-clause-has c =
-    let g = c.args.problem.now in let sizes = c.args.sizes.now in let x = c.in_ok-explored.field-0.explored in
-    let is : c.deref.result.now ≡ g = search rules in
-    let near = subst (λ (p : Ground). AreNear p sizes.sweep_states x.states (extent_of x)) is c.in_ok-explored.ensures.explored in
+pub keep_near-requires-clause-known : goal.keep_near-requires-clause-known
+keep_near-requires-clause-known c =
+    let g = c.args.problem.now in let sizes = c.args.sizes.now in let x = c.in_ok-explored.explored in
+    let near = near_of g c.deref.result.now sizes.sweep_states x (search rules) c.in_ok-explored.ensures in
     let b = c.in_ok-words.words in let k = c.in_ok-words.pass in
-    subst (λ (ss : List State). HasListed ss k.view) (sym c.as_slice-states.ensures)
-    (made_has g sizes.sweep_states (room_for x.depth (length x.states) sizes.states + sizes.workers) sizes.workers x.states (extent_of x) near b k
+    swept_are_known g sizes.sweep_states (room_for x.depth (length x.states) sizes.states + sizes.workers) sizes.workers x.states (extent_of x) near b k
     (made_of g sizes.workers x.states c.as_slice-states.result.now b k (room_for x.depth (length x.states) sizes.states) c.room_for.result c.as_slice-states.ensures c.room_for.ensures
-    c.in_ok-words.ensures))
+    c.in_ok-words.ensures)
 
 pub returns : goal.returns
 returns c =
-    let g = c.args.problem.now in let sizes = c.args.sizes.now in let x = c.in_ok-explored.field-0.explored in
-    let is : c.deref.result.now ≡ g = search rules in
-    let near = subst (λ (p : Ground). AreNear p sizes.sweep_states x.states (extent_of x)) is c.in_ok-explored.ensures.explored in
-    let b = c.in_ok-words.words in let k = c.in_ok-words.pass in let sunk = c.sink_goals in
-    let few : length x.states ≤ sizes.states = (let f = c.in_ok-explored.ensures.explored.few in let room = c.requires.room in omega arith) in
-    is_opened g sizes record { words = b; pass = sunk.new.pass; extent = extent_of x; index = c.in_ok-index.index; near = c.in_ok-near.near } k x.states
-    near
+    let g = c.args.problem.now in let sizes = c.args.sizes.now in let x = c.in_ok-explored.explored in
+    let near = near_of g c.deref.result.now sizes.sweep_states x (search rules) c.in_ok-explored.ensures in
+    let b = c.in_ok-words.words in let k = c.in_ok-words.pass in let pass = c.keep_near.new.pass in
+    is_opened g sizes record { words = b; pass = pass; extent = extent_of x; index = c.in_ok-index.index; near = c.in_ok-near-2.near } k x.states near
     (made_of g sizes.workers x.states c.as_slice-states.result.now b k (room_for x.depth (length x.states) sizes.states) c.room_for.result c.as_slice-states.ensures c.room_for.ensures
     c.in_ok-words.ensures)
-    sunk.ensures.stays sunk.ensures.spare
-    (subst (λ (ss : List State). (s : State) (id : ℕ) → IsPlaceOf ss s id → IsIdOf sunk.new.pass.view s id) c.as_slice-states.ensures sunk.ensures.ids)
-    (subst (AreKeptStates (IsPlaceOf x.states) g) (sym c.in_ok-near.ensures.ok)
-    (subst (λ (p : Ground). AreKeptStates (IsPlaceOf x.states) p c.in_ok-explored.field-0.transitions) is c.in_ok-explored.ensures.kept))
-    few (search rules)
+    c.keep_near.ensures.keeps c.keep_near.ensures.spare
+    (subst (KeepsStates b.problem pass.view) (sym c.in_ok-near-2.ensures.ok) c.in_ok-near.ensures.kept)
+    (few_listed g sizes x near c.requires) (search rules)

@@ -1,5 +1,5 @@
 -- A name that was put there before stays there.
-use Rattle.std.proofs.Common.{◌≡◌, Some, sym, ap, subst, ◌∙◌, rules}
+use Rattle.std.proofs.Common.{◌≡◌, sym, ap, subst, ◌∙◌, rules}
 use Rattle.std.specs.Prelude.{get_or, slice_set, true, false}
 use Rattle.std.specs.BTreeSet.{insert_key}
 use Rattle.plain_list.specs.Texts.{compare_texts}

@@ -1,6 +1,5 @@
 -- A place that stands there stays.
-use Rattle.std.proofs.Common.{◌≡◌, ◌<◌, length, sym, ap, ◌∙◌, subst, not, arith}
-use Rattle.fixed_round.specs.Words.{code_of}
+use Rattle.std.proofs.Common.{◌<◌, length, sym, ap, ◌∙◌, subst, not, arith}
 use Rattle.closing_certificate.specs.Tables.{IsPlaced}
 use Rattle.closing_certificate.proofs.ActTable.{stands, more_put}
 use Rattle.closing_certificate.proofs.acts.put_place.Goals as goal

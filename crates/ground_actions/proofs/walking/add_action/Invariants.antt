@@ -1,5 +1,5 @@
 use Rattle.std.proofs.Common.{◌≡◌, drop, map}
-use Rattle.instance_names.specs.Names.{instance_of_row}
+use Rattle.instance_names.specs.Names.{instance_of_row, names_of}
 use Rattle.ground_actions.specs.Growing.{with_instances}
 use Rattle.ground_actions.proofs.Repeating.{HasLast}
 use Rattle.ground_actions.proofs.walking.add_action.Given as goal
@@ -9,5 +9,6 @@ invariant-loop-place l = record {
   rest :
       with_instances l.facts l.base l.grown (map (instance_of_row l.facts l.action) (drop l.place l.rows.rows))
       ≡ with_instances l.facts l.base l.fn.before (map (instance_of_row l.facts l.action) l.rows.rows);
+  same : l.names ≡ names_of l.facts l.action;
   last : HasLast l.facts l.base l.action l.rows.rows l.place l.grown.list;
 }

@@ -13,4 +13,4 @@ pub returns : goal.returns
 unfolding turns
 returns c =
     let last : c.loop-switch.switch ≡ 15 = omega arith in
-    whole turned c.from_vec.result c.loop-switch.choices.items c.loop-switch.switch c.from_vec.ensures c.loop-switch.invariant last
+    whole turned c.in_ok-turns.turns c.loop-switch.choices.items c.loop-switch.switch c.in_ok-turns.ensures c.loop-switch.invariant last

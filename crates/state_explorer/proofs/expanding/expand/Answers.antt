@@ -3,17 +3,14 @@ use Rattle.std.proofs.Common.{◌≡◌, ℕ, ◌<◌, true, false, List, length
 use Rattle.decision_process.specs.Levels.{nexts, successors}
 use Rattle.std.specs.Prelude.{flat_map}
 use Rattle.std.specs.List.{All}
+use Rattle.std.proofs.lemmas.Result.{on_ok_weaker}
 use Rattle.ground_model.specs.Packed.{State}
 use Rattle.ground_model.specs.Ground.{Ground}
 use Rattle.ground_model.specs.Steps.{ground_process}
 use Rattle.distinct_actions.specs.Enough.{AreEnough}
-use Rattle.kept_transitions.specs.Meaning.{IsPlaceOf}
-use Rattle.state_explorer.specs.declared.keeping.Keeping.{Keeping}
 use Rattle.state_explorer.specs.Found.{Grows}
-use Rattle.state_explorer.specs.Kept.{Puts, HasActions}
 use Rattle.state_explorer.proofs.Choices.{codes_within, successors_at}
 use Rattle.state_explorer.proofs.Growth.{grows_none, grows_same}
-use Rattle.state_explorer.proofs.Rows.{place_still, kept_at_end}
 use Rattle.state_explorer.proofs.expanding.expand.Goals as goal
 
 pub returns-then-is_goal-clause-grows : goal.returns-then-is_goal-clause-grows
@@ -41,26 +38,8 @@ returns-clause-grows c =
     ap (λ (p : Ground). (ground_process p).goal s) (sym c.problem-problem.ensures) ∙ sym c.is_goal.ensures ∙ c.if-is_goal.false in
     let cs = c.as_slice.result.now in
     let enough : AreEnough g s cs = subst (λ (xs : List ℕ). AreEnough g s xs) (sym c.as_slice.ensures) c.fill.ensures.codes in
-    grows_same c.args.most (flat_map (λ k. nexts (ground_process g) k s) cs) (successors (ground_process g) s) c.args.listing.now m
+    on_ok_weaker c.add_actions.result
+    (λ grows. grows_same c.args.most (flat_map (λ k. nexts (ground_process g) k s) cs) (successors (ground_process g) s) c.args.listing.now m
     (c.enough_laws.ensures.successors g s cs enough off)
-    (subst (λ (p : Ground). Grows c.args.most (flat_map (λ k. nexts (ground_process p) k s) cs) c.args.listing.now m)
-    c.problem-problem.ensures c.in_ok-add_actions.ensures.grows)
-
-pub returns-clause-kept : goal.returns-clause-kept
-returns-clause-kept c =
-    let g = c.args.index.now in
-    let s = c.args.state.now in
-    let l = c.args.listing.now in
-    let m = c.add_actions.new.listing in
-    let k : Keeping = record { kept = c.args.keeping.now.kept; whole = true } in
-    let w = c.add_actions.new.keeping in
-    let off : (ground_process g).goal s ≡ false =
-    ap (λ (p : Ground). (ground_process p).goal s) (sym c.problem-problem.ensures) ∙ sym c.is_goal.ensures ∙ c.if-is_goal.false in
-    let cs = c.as_slice.result.now in
-    let enough : AreEnough g s cs = subst (λ (xs : List ℕ). AreEnough g s xs) (sym c.as_slice.ensures) c.fill.ensures.codes in
-    let grows = c.in_ok-add_actions.ensures.grows in
-    let still = place_still l grows.more m grows.is in
-    let puts : Puts (HasActions (IsPlaceOf m) s g cs (length cs)) k w =
-    subst (λ (p : Ground). Puts (HasActions (IsPlaceOf m) s p cs (length cs)) k w) c.problem-problem.ensures c.in_ok-add_actions.ensures.kept in
-    kept_at_end (IsPlaceOf l) (IsPlaceOf m) still g s c.args.place cs k w c.end.new.self c.action_count-first.result c.id_count-ids.result
-    (still s c.args.place c.requires.place) off enough c.requires.kept c.action_count-first.ensures c.id_count-ids.ensures puts c.end.ensures.whole c.end.ensures.cut
+    (subst (λ (p : Ground). Grows c.args.most (flat_map (λ k. nexts (ground_process p) k s) cs) c.args.listing.now m) c.problem-problem.ensures grows))
+    c.add_actions.ensures.grows

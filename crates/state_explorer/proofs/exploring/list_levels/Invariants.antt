@@ -1,4 +1,4 @@
--- The listed states are levels as far as they are gone through, and what is kept are transitions of them.
+-- The listed states are levels as far as they are gone through.
 use Rattle.std.proofs.Common.{◌+◌, ◌-◌}
 use Rattle.state_explorer.specs.Found.{IsRoomFor}
 use Rattle.state_explorer.specs.Exploring.{IsUnderWay}

@@ -11,4 +11,4 @@ loop-start-preserved c =
     let x = c.start-item.result in
     distinct_more (λ (x : Start). x.state) c.args.starts.now c.loop-start.start-index x c.loop-start.listing c.add.new.self
     c.loop-start-test.true c.requires c.loop-start.invariant
-    (subst (λ (t : State). IsAdded c.loop-start.listing c.add.new.self t) (ap (λ (y : Start). y.state) c.start-item.is) c.in_ok-add.ensures.added)
+    (subst (λ (t : State). IsAdded c.loop-start.listing c.add.new.self t) (ap (λ (y : Start). y.state) c.start-item.is) c.in_ok-add.ensures)

@@ -11,9 +11,7 @@ returns-in-Own-clause-goes_on c =
     held_words_go c.args.words.now c.args.pass.now c.load_bucket.new.pass c.compare.new.pass c.requires.here c.args.bucket c.in_ok-held.held
     c.in_ok-held.ensures.some.seen c.compare.ensures.seen
 
-pub returns-in_default : goal.returns-in_default
-returns-in_default c = record {
-  goes_on = held_words_go c.args.words.now c.args.pass.now c.load_bucket.new.pass c.compare.new.pass c.requires.here c.args.bucket c.in_ok-held.held
-      c.in_ok-held.ensures.some.seen c.compare.ensures.seen;
-  told = tt;
-}
+pub returns-in_default-clause-goes_on : goal.returns-in_default-clause-goes_on
+returns-in_default-clause-goes_on c =
+    held_words_go c.args.words.now c.args.pass.now c.load_bucket.new.pass c.compare.new.pass c.requires.here c.args.bucket c.in_ok-held.held
+    c.in_ok-held.ensures.some.seen c.compare.ensures.seen

@@ -1,5 +1,5 @@
 -- All words are read.
-use Rattle.std.proofs.Common.{◌≡◌, ◌<◌, ◌∙◌, sym, arith}
+use Rattle.std.proofs.Common.{◌<◌, ◌∙◌, sym, arith}
 use Rattle.std.specs.Mem.Slots.{slots_items}
 use Rattle.std.proofs.lemmas.Grind.{same_number_lists}
 use Rattle.std.proofs.lemmas.List.FromFn.{length-map-range_with_len, get_or-map-range_with_len}
@@ -14,9 +14,7 @@ returns c =
     let past = c.loop-place-test.false in
     let wide = c.loop-place.invariant.0 in
     let long = length-map-range_with_len (λ k. word ws (state_at l c.args.id k)) 0 l.width in
-    let same : c.loop-place.words.items ≡ state_in l ws c.args.id =
-    same_number_lists c.loop-place.words.items (state_in l ws c.args.id) (wide ∙ sym long)
+    same_number_lists c.loop-place.state (state_in l ws c.args.id) (wide ∙ sym long)
     (λ k below.
     let small : k < l.width = omega arith in
-    c.loop-place.invariant.1 k (omega arith) ∙ sym (get_or-map-range_with_len (λ p. word ws (state_at l c.args.id p)) 0 l.width k k 0 small (omega arith))) in
-    c.from_words.ensures ∙ (c.from_vec.ensures ∙ same)
+    c.loop-place.invariant.1 k (omega arith) ∙ sym (get_or-map-range_with_len (λ p. word ws (state_at l c.args.id p)) 0 l.width k k 0 small (omega arith)))

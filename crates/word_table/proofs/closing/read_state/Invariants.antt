@@ -7,5 +7,5 @@ use Rattle.word_rule.specs.Words.{word}
 use Rattle.word_table.proofs.closing.read_state.Given as goal
 
 abbrev pub invariant-loop-place : goal.invariant-loop-place
-invariant-loop-place l = (length l.words.items ≡ l.layout.width)
-    × ((k : ℕ) → k < l.place → get_or l.words.items k 0 ≡ word (slots_items l.closed.words) (state_at l.layout l.id k))
+invariant-loop-place l = (length l.state ≡ l.layout.width)
+    × ((k : ℕ) → k < l.place → get_or l.state k 0 ≡ word (slots_items l.closed.words) (state_at l.layout l.id k))

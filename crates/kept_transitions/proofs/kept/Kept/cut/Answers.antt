@@ -6,6 +6,6 @@ use Rattle.kept_transitions.proofs.kept.Kept.cut.Goals as goal
 
 pub returns-clause-actions : goal.returns-clause-actions
 returns-clause-actions c =
-    ap (actions_of c.self.inside.kinds) c.truncate.ensures.items
-    ∙ sym (take-map (action_of c.self.inside.kinds) c.args.actions c.self.inside.actions.items)
+    ap (actions_of c.self.inside.kinds) c.cut.ensures
+    ∙ sym (take-map (action_of c.self.inside.kinds) c.args.actions c.self.inside.actions)
     ∙ ap (λ (t : Transitions). take c.args.actions t.actions) c.self.view_is

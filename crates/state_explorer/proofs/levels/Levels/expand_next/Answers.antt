@@ -1,7 +1,7 @@
--- The levels grow by the successors of one state more, and its transitions may be kept.
+-- The levels grow by the successors of one state more.
 use Rattle.std.proofs.Common.{◌≤◌, ◌<◌, length, arith}
 use Rattle.ground_model.specs.Steps.{ground_process, ground_starts}
-use Rattle.state_explorer.proofs.Answered.{front_reached, still_shallow, listed_has_length, listed_is_short, listed_stands}
+use Rattle.state_explorer.proofs.Answered.{front_reached, still_shallow, listed_has_length, listed_is_short}
 use Rattle.state_explorer.proofs.ListedLevels.{goes_on, stops}
 use Rattle.state_explorer.proofs.levels.Levels.expand_next.Goals as goal
 
@@ -18,9 +18,8 @@ expand-requires-clause-words c =
     c.requires.under_way.explores c.in_ok-state.state c.requires.next c.in_ok-state.ensures in
     omega (arith, short)
 
-pub expand-requires-clause-place : goal.expand-requires-clause-place
-expand-requires-clause-place c =
-    listed_stands c.args.self.now.listing c.in_ok-state.state c.args.self.now.next c.requires.next c.in_ok-state.ensures
+pub expand-requires-clause-listed : goal.expand-requires-clause-listed
+expand-requires-clause-listed c = (c.args.self.now.next, c.requires.next, c.in_ok-state.ensures)
 
 pub returns-clause-under_way : goal.returns-clause-under_way
 returns-clause-under_way c = λ few.
@@ -36,7 +35,6 @@ returns-clause-under_way c = λ few.
       explores = goes_on (ground_process g) (ground_starts g) most old.next reached.level reached.depth old.listing e.0 m c.in_ok-state.state e.1
           c.in_ok-state.ensures c.in_ok-expand.ensures.grows c.len.ensures.differ fits;
       shallow = still_shallow g most old.next listed old.front reached old.listing now.explores more count up same now.shallow;
-      kept = c.in_ok-expand.ensures.kept;
     }
 
 pub returns-clause-stopped : goal.returns-clause-stopped
@@ -47,8 +45,5 @@ returns-clause-stopped c = λ past.
     let e = front_reached g most old.next listed old.front reached old.listing now.explores more count c.reach-self.ensures.up c.reach-self.ensures.same in
     let m = c.expand.new.listing in
     let long : most < length m = omega (arith, c.len.ensures.count, past) in
-    record {
-      are = stops (ground_process g) (ground_starts g) most old.next reached.level reached.depth old.listing e.0 m c.in_ok-state.state e.1
-          c.in_ok-state.ensures c.in_ok-expand.ensures.grows c.len.ensures.differ long;
-      kept = c.in_ok-expand.ensures.kept;
-    }
+    stops (ground_process g) (ground_starts g) most old.next reached.level reached.depth old.listing e.0 m c.in_ok-state.state e.1
+    c.in_ok-state.ensures c.in_ok-expand.ensures.grows c.len.ensures.differ long

@@ -3,25 +3,22 @@ use Rattle.std.proofs.Common.{◌≡◌, ◌≤◌, length, map, sym, ap, ◌∙
 use Rattle.sweep_levels.specs.Laws.{states_of}
 use Rattle.ground_model.specs.declared.start.Start.{Start}
 use Rattle.ground_model.specs.Steps.{ground_process, ground_starts}
-use Rattle.kept_transitions.specs.Meaning.{IsPlaceOf, AreKeptStates}
-use Rattle.kept_transitions.proofs.Still.{new_keeps_nothing}
 use Rattle.state_explorer.specs.Exploring.{Exploring}
 use Rattle.state_explorer.proofs.Insides.{starts_are, starts_long}
 use Rattle.state_explorer.proofs.ListedLevels.{begins}
 use Rattle.state_explorer.proofs.levels.Levels.new.Goals as goal
 
 pub returns : goal.returns
-returns c =
+returns c = λ most enough.
     let g = c.args.problem.now in
     let l = c.in_ok-listing.listing in
     let is : l ≡ states_of (ground_starts g) =
     c.in_ok-listing.ensures ∙ ap (map (λ (x : Start). x.state)) c.starts.ensures.value ∙ starts_are g.starts in
     let long : length l ≡ length g.starts = ap length is ∙ starts_long g.starts in
-    let few : length l ≤ c.args.most = omega (arith, c.starts.ensures.valid.starts_count, c.requires.enough) in
+    let few : length l ≤ most = omega (arith, c.starts.ensures.valid.starts_count, enough) in
     record {
       valid = c.starts.ensures.valid;
-      explores = subst (λ n. Exploring (ground_process g) (ground_starts g) c.args.most 0 n 1 l) (sym c.len-level.ensures.count)
-          (begins (ground_process g) (ground_starts g) c.args.most l c.len-level.ensures.differ is few);
+      explores = subst (λ n. Exploring (ground_process g) (ground_starts g) most 0 n 1 l) (sym c.len-level.ensures.count)
+          (begins (ground_process g) (ground_starts g) most l c.len-level.ensures.differ is few);
       shallow = omega arith;
-      kept = subst (AreKeptStates (IsPlaceOf l) g) (sym c.in_ok-keeping.ensures) (new_keeps_nothing (IsPlaceOf l) g c.args.most);
     }

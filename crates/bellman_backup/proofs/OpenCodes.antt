@@ -1,0 +1,35 @@
+-- The action of an open code, as it is read.
+use Rattle.std.proofs.Common.{◌≡◌, ℕ, ◌<◌, Some, List, length, get_or, refl, sym, ap, ◌∙◌, subst}
+use Rattle.std.specs.List.{slice_get}
+use Rattle.std.proofs.lemmas.Option.{slice_get_read}
+use Rattle.ground_model.specs.declared.action.GroundAction.{GroundAction}
+use Rattle.ground_model.specs.Packed.{State}
+use Rattle.ground_model.specs.Ground.{Ground}
+use Rattle.ground_model.specs.Invariant.{IsGroundProblem}
+use Rattle.distinct_actions.specs.Enough.{AreEnough}
+use Rattle.word_table.specs.Seen.{Board, Knowledge}
+use Rattle.bellman_backup.specs.Backups.{Keeps}
+use Rattle.bellman_backup.specs.Choosing.{IsOpenState}
+use Rattle.bellman_backup.specs.Totals.{IsUsable}
+use Rattle.bellman_backup.proofs.Stepping.{problem_of, action_is_usable, open_later, open_code_is_inside, code_is_open}
+
+module _ (b : Board) (s : State) (codes : List ℕ) (enough : AreEnough b.problem s codes) (i : ℕ) (within : i < length codes)
+    (p : Ground) (same : p ≡ b.problem) (all : List GroundAction) (are : all ≡ p.actions) where
+  abbrev code : ℕ
+  code = get_or codes i 0
+
+  actions_are : all ≡ b.problem.actions
+  actions_are = are ∙ ap (λ (q : Ground). q.actions) same
+
+  pub code_is_inside : code < length all
+  code_is_inside = subst (λ (xs : List GroundAction). code < length xs) (sym actions_are)
+      (open_code_is_inside b.problem s code (code_is_open b.problem s codes i enough within))
+
+  module _ (a : GroundAction) (read : a ≡ get_or all code a) where
+    pub action_of_code : slice_get b.problem.actions code ≡ Some a
+    action_of_code = subst (λ (xs : List GroundAction). slice_get xs code ≡ Some a) actions_are (slice_get_read all (length all) code a refl code_is_inside read)
+
+    pub open_action_is_usable : (k l : Knowledge) → IsGroundProblem p → IsOpenState b.problem k.view s → Keeps b k l → IsUsable b.problem l.view s a
+    open_action_is_usable k l valid is keeps =
+        action_is_usable b.problem (subst IsGroundProblem same valid) l.view s code a (problem_of b l keeps.here)
+        (open_later b.problem k.view l.view s keeps.noted is) (code_is_open b.problem s codes i enough within) action_of_code
