@@ -2,15 +2,20 @@
 use Rattle.std.proofs.Common.{◌≡◌, ℕ, ◌<◌, Some, List, length, get_or, refl, sym, ap, ◌∙◌, subst}
 use Rattle.std.specs.List.{slice_get}
 use Rattle.std.proofs.lemmas.Option.{slice_get_read}
+use Rattle.ground_model.specs.declared.action.Choice.{Choice}
 use Rattle.ground_model.specs.declared.action.GroundAction.{GroundAction}
 use Rattle.ground_model.specs.Packed.{State}
 use Rattle.ground_model.specs.Ground.{Ground}
 use Rattle.ground_model.specs.Invariant.{IsGroundProblem}
+use Rattle.ground_step.specs.Steps.{choices_at, choices_of}
 use Rattle.distinct_actions.specs.Enough.{AreEnough}
+use Rattle.distinct_actions.proofs.Opens.{open_action}
+use Rattle.word_view.specs.declared.view.View.{View}
+use Rattle.word_view.specs.Laws.{HasMore}
 use Rattle.word_table.specs.Seen.{Board, Knowledge}
 use Rattle.bellman_backup.specs.Backups.{Keeps}
 use Rattle.bellman_backup.specs.Choosing.{IsOpenState}
-use Rattle.bellman_backup.specs.Totals.{IsUsable}
+use Rattle.bellman_backup.specs.Totals.{IsUsable, IsUsableAt}
 use Rattle.bellman_backup.proofs.Stepping.{problem_of, action_is_usable, open_later, open_code_is_inside, code_is_open}
 
 module _ (b : Board) (s : State) (codes : List ℕ) (enough : AreEnough b.problem s codes) (i : ℕ) (within : i < length codes)
@@ -33,3 +38,20 @@ module _ (b : Board) (s : State) (codes : List ℕ) (enough : AreEnough b.proble
     open_action_is_usable k l valid is keeps =
         action_is_usable b.problem (subst IsGroundProblem same valid) l.view s code a (problem_of b l keeps.here)
         (open_later b.problem k.view l.view s keeps.noted is) (code_is_open b.problem s codes i enough within) action_of_code
+
+-- ---- the choices of an open code
+
+module _ (g : Ground) (s : State) (codes : List ℕ) (enough : AreEnough g s codes) (i : ℕ) (within : i < length codes) where
+  pub open_code_within : get_or codes i 0 < length g.actions
+  open_code_within = open_code_is_inside g s (get_or codes i 0) (code_is_open g s codes i enough within)
+
+  pub choices_are_usable : (v w : View) (cs : List Choice) → IsGroundProblem g → w.problem ≡ g → HasMore v w → IsOpenState g v s
+      → cs ≡ choices_of g (get_or codes i 0) → IsUsableAt g w s (get_or codes i 0) cs
+  choices_are_usable v w cs valid same more is are =
+      let opens = code_is_open g s codes i enough within in
+      let found = open_action g s (get_or codes i 0) opens in record {
+        action = found.0;
+        here = found.1;
+        choices = are ∙ ap choices_at found.1;
+        usable = action_is_usable g valid w s (get_or codes i 0) found.0 same (open_later g v w s more is) opens found.1;
+      }

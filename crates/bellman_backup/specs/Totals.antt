@@ -1,5 +1,6 @@
 -- What is read of the outcomes of one action.
 --     IsUsable g v s a           an action of the problem, of which each choice leads to a state that v may intern
+--     IsUsableAt g v s code cs   these are the choices of such an action, which has this code
 --     IsSmallStep cost x         the numbers of a choice are within their limits
 --     HasReadNext g v w t weight x
 --                                x is a choice of this weight with what was read of the state t, by the loads made since
@@ -7,8 +8,8 @@
 --                                the choices cs were read so, one after another, and the sums over them with these costs are these
 --     HasReadAction g v w s a steps sums
 --                                so were those of an action
-use Rattle.std.specs.Prelude.{◌≡◌, ℕ, ◌≤◌, ◌^◌, List, ◌++◌, length, map, Contains}
-use Rattle.std.specs.List.{AllZip}
+use Rattle.std.specs.Prelude.{◌≡◌, ℕ, ◌≤◌, ◌^◌, Some, List, ◌++◌, length, map, Contains}
+use Rattle.std.specs.List.{AllZip, slice_get}
 use Rattle.fixed_round.specs.Means.{weighted}
 use Rattle.fixed_round.specs.Words.{value_of}
 use Rattle.ground_model.specs.declared.action.Choice.{Choice}
@@ -29,6 +30,12 @@ pub record IsUsable (g : Ground) (v : View) (s : State) (a : GroundAction) : Typ
   pub action : IsAction (length g.atoms) a
   pub penalty : g.penalty ≤ MOST_PENALTY
   pub reached : (c : Choice) → Contains a.choices c → IsReached v (next_state s c)
+
+pub record IsUsableAt (g : Ground) (v : View) (s : State) (code : ℕ) (cs : List Choice) : Type 0 where
+  pub action : GroundAction
+  pub here : slice_get g.actions code ≡ Some action
+  pub choices : cs ≡ action.choices
+  pub usable : IsUsable g v s action
 
 pub record IsSmallStep (cost : ℕ) (x : Step) : Type 0 where
   pub cost_within : cost ≤ 10 ^ 13

@@ -1,7 +1,6 @@
 //! The transitions of a state, as they are kept.
 
-ghost use Rattle.std.specs.Prelude.{◌≡◌, ◌<◌, ℕ, Some, IsTrue, IsSome, IfSome, length};
-ghost use Rattle.std.specs.List.{slice_get};
+ghost use Rattle.std.specs.Prelude.{◌≡◌, ◌<◌, ℕ, IsTrue, IsSome, IfSome, length};
 ghost use Rattle.ground_model.specs.Choices.{cost_of, next_state};
 ghost use Rattle.ground_model.specs.Invariant.{IsChoice};
 ghost use Rattle.ground_model.specs.Packed.{has_bit};
@@ -16,12 +15,13 @@ ghost use Rattle.bellman_backup.specs.Choosing.{IsOpenState};
 ghost use Rattle.bellman_backup.specs.Kept.{AreKept};
 ghost use Rattle.bellman_backup.specs.Growing.{HasKeptId, HasKeptChoice};
 ghost use Rattle.bellman_backup.specs.Growing.{HasKeptAction, HaveKeptActions};
-ghost use Rattle.bellman_backup.specs.Totals.{IsUsable};
+ghost use Rattle.bellman_backup.specs.Totals.{IsUsableAt};
 ghost use Rattle.bellman_backup.specs.declared.lookup.Lookup.TheVariants as The;
 
 use crate::lookup::Lookup;
-use ground_model::{Choice, GroundAction, State};
-use ground_step::apply;
+use distinct_actions::DistinctActions;
+use ground_model::State;
+use ground_step::PreparedChoice;
 use kept_transitions::{Kept, KeptAction, KeptRow, idle_law, is_idle};
 use state_interner::Hints;
 use word_table::{Pass, Words};
@@ -57,7 +57,7 @@ fn keep_choice(
     words: &Words<'_>,
     pass: &mut Pass,
     lookup: Lookup,
-    choice: &Choice,
+    choice: &PreparedChoice<'_>,
     state: &State,
     next: &mut State,
     hints: &mut Hints,
@@ -78,11 +78,11 @@ fn keep_choice(
     ensures kept { let old = pass.old.view in let new = pass.new.view
         in IsSome result → HasKeptChoice old new state.now choice.now kept.old kept.new }
 {
-    if is_idle(choice) {
+    if is_idle(choice.choice()) {
         idle_law(state);
-        return Some(choice.cost);
+        return Some(choice.choice().cost);
     }
-    let paid = apply(choice, state, next);
+    let paid = choice.apply(state, next);
     if keep_id(words, pass, lookup, next, hints, kept) {
         return Some(paid);
     }
@@ -96,7 +96,7 @@ fn keep_action(
     pass: &mut Pass,
     lookup: Lookup,
     code: u16,
-    action: &GroundAction,
+    choices: &[PreparedChoice<'_>],
     state: &State,
     next: &mut State,
     hints: &mut Hints,
@@ -104,8 +104,7 @@ fn keep_action(
 ) -> bool
     requires here { IsOf words.now pass.old }
     requires right { 0 < pass.old.view.rights }
-    requires action { IsUsable words.now.problem pass.old.view state.now action.now }
-    requires coded { slice_get words.now.problem.actions code ≡ Some action.now }
+    requires action { IsUsableAt words.now.problem pass.old.view state.now code choices.now }
     requires wide { length state.now ≡ words.now.layout.width }
     requires fits { length next.old ≡ length state.now }
     ensures keeps { Keeps words.now pass.old pass.new }
@@ -118,11 +117,11 @@ fn keep_action(
 {
     let first = kept.id_count();
     let mut cost = 0u128;
-    for choice in action.choices.as_slice() {
+    for choice in choices {
         let Some(paid) = keep_choice(words, pass, lookup, choice, state, next, hints, kept) else {
             return false;
         };
-        cost += u128::from(choice.weight) * u128::from(paid);
+        cost += u128::from(choice.choice().weight) * u128::from(paid);
     }
     if cost > u128::from(u64::MAX) {
         return false;
@@ -139,6 +138,7 @@ fn keep_actions(
     words: &Words<'_>,
     pass: &mut Pass,
     lookup: Lookup,
+    index: &DistinctActions<'_>,
     codes: &[u16],
     state: &State,
     next: &mut State,
@@ -147,6 +147,7 @@ fn keep_actions(
 ) -> bool
     requires here { IsOf words.now pass.old }
     requires right { 0 < pass.old.view.rights }
+    requires problem { index.now ≡ words.now.problem }
     requires state { IsOpenState words.now.problem pass.old.view state.now }
     requires codes { AreEnough words.now.problem state.now codes.now }
     requires fits { length next.old ≡ length state.now }
@@ -158,10 +159,11 @@ fn keep_actions(
     ensures kept { let g = words.now.problem in let old = pass.old.view in let new = pass.new.view
         in IsTrue result → HaveKeptActions old new state.now g codes.now kept.old kept.new }
 {
-    let problem = words.problem();
     for code in codes {
-        let action = &problem.actions()[*code as usize];
-        if !keep_action(words, pass, lookup, *code, action, state, next, hints, kept) {
+        let choices = index.choices(*code);
+        if !keep_action(
+            words, pass, lookup, *code, choices, state, next, hints, kept,
+        ) {
             return false;
         }
     }
@@ -174,6 +176,7 @@ pub(crate) fn expand(
     words: &Words<'_>,
     pass: &mut Pass,
     lookup: Lookup,
+    index: &DistinctActions<'_>,
     codes: &[u16],
     state: &State,
     next: &mut State,
@@ -182,6 +185,7 @@ pub(crate) fn expand(
 ) -> KeptRow
     requires here { IsOf words.now pass.old }
     requires right { 0 < pass.old.view.rights }
+    requires problem { index.now ≡ words.now.problem }
     requires state { IsOpenState words.now.problem pass.old.view state.now }
     requires codes { AreEnough words.now.problem state.now codes.now }
     requires fits { length next.old ≡ length state.now }
@@ -195,7 +199,7 @@ pub(crate) fn expand(
 {
     let first = kept.action_count();
     let ids = kept.id_count();
-    if keep_actions(words, pass, lookup, codes, state, next, hints, kept) {
+    if keep_actions(words, pass, lookup, index, codes, state, next, hints, kept) {
         return KeptRow {
             first,
             past: kept.action_count(),

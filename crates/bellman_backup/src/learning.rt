@@ -59,6 +59,7 @@ pub(crate) fn find_row(
         words,
         pass,
         lookup,
+        index,
         codes.as_slice(),
         state,
         next,

@@ -1,5 +1,6 @@
 pub mod Members
 pub mod Repeats
+pub mod Placing
 pub mod Opens
 pub mod Kept
 pub mod Enough

@@ -1,3 +1,4 @@
 pub mod Enough
+pub mod Placed
 pub mod Repeats
 pub mod Laws

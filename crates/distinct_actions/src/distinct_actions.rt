@@ -1,12 +1,16 @@
 //! An index of the actions that are enough.
 
 ghost use Rattle.std.specs.Prelude.{◌≡◌, ◌*◌, ◌<◌, ◌≤◌, ◌^◌, length, IfOk, IsTrue};
+ghost use Rattle.ground_model.specs.Invariant.{IsGroundProblem};
+ghost use Rattle.ground_step.specs.Steps.{choices_of};
 ghost use Rattle.distinct_actions.specs.Enough.{AreEnough, RepeatsLast};
 ghost use Rattle.distinct_actions.specs.Repeats.{AreRepeats};
 
 use crate::distinct_codes::DistinctCodes;
+use crate::prepared_actions::PreparedActions;
 use crate::same::do_the_same;
 use ground_model::{GroundAction, GroundProblem, List, State};
+use ground_step::PreparedChoice;
 use open_actions::ActionIndex;
 use std::alloc::{AllocError, Global};
 use std::marker::Model;
@@ -16,13 +20,14 @@ use std::marker::Model;
 #[derive(Drop)]
 pub struct DistinctActions<'p> {
     index: ActionIndex<'p>,
+    prepared: PreparedActions<'p>,
 }
 
 impl<'p> Model for DistinctActions<'p> {
     ghost use Rattle.std.specs.Coded.{codes};
     ghost use Rattle.ground_model.specs.contracts.condition.GroundCondition as of_conditions;
     ghost use Rattle.ground_model.specs.Ground.{Ground};
-    ghost use Rattle.distinct_actions.specs.Repeats.{AreRepeats};
+    ghost use Rattle.distinct_actions.specs.Repeats.{IsIndexOf};
 
     ghost Value = { Ground };
 
@@ -30,7 +35,7 @@ impl<'p> Model for DistinctActions<'p> {
 
     ghost view = { λ d. (d.index).problem };
 
-    ghost invariant = { λ d. AreRepeats ((d.index).problem).actions (d.index).left_out };
+    ghost invariant = { λ d. IsIndexOf d.index d.prepared };
 }
 
 /// Of each action, whether it does the same as the one before.
@@ -51,7 +56,8 @@ impl<'p> DistinctActions<'p> {
     {
         let repeats = repeats_of(alloc, problem.actions())?;
         let index = ActionIndex::new(alloc, problem, repeats)?;
-        Ok(DistinctActions { index })
+        let prepared = PreparedActions::new(alloc, &index)?;
+        Ok(DistinctActions { index, prepared })
     }
 
     /// The problem.
@@ -66,6 +72,15 @@ impl<'p> DistinctActions<'p> {
         ensures { IsTrue result → RepeatsLast (self.now).actions code }
     {
         self.index.is_left_out(code)
+    }
+
+    /// The choices of an action, prepared.
+    pub fn choices(&self, code: u16) -> &[PreparedChoice<'p>]
+        requires { code < length self.now.actions }
+        ensures value { result.now ≡ choices_of self.now code }
+        ensures valid { IsGroundProblem self.now }
+    {
+        self.prepared.choices(code)
     }
 
     /// Writes codes of actions that are open in a state, in rising order, so that for each open action there is one

@@ -7,7 +7,9 @@
 mod distinct_actions;
 mod distinct_codes;
 mod laws;
+mod prepared_actions;
 mod same;
+mod span;
 
 pub use distinct_actions::DistinctActions;
 pub use distinct_codes::DistinctCodes;

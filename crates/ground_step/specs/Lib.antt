@@ -1,5 +1,6 @@
 pub mod Edits
 pub mod Marks
+pub mod Acting
 pub mod Steps
 pub mod Atoms
 pub mod Names

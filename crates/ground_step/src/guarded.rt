@@ -1,8 +1,11 @@
-//! What the guarded parts of a choice do, in place.
+//! What the guarded parts of a choice do, in place. Of the first ones marks say which can act, so that the others are
+//! not tested.
 
-ghost use Rattle.std.specs.Prelude.{◌≡◌, ◌<◌, ◌≤◌, ◌+◌, ◌^◌, length, take};
+ghost use Rattle.std.specs.Prelude.{◌≡◌, ◌<◌, ◌≤◌, ◌+◌, ◌%◌, ◌^◌, false, nat_eq, length, take};
 ghost use Rattle.ground_model.specs.Choices.{active_cost};
 ghost use Rattle.ground_model.specs.Packed.{has_bit};
+ghost use Rattle.ground_model.specs.Truth.{truth};
+ghost use Rattle.ground_step.specs.Acting.{IsNever, AreActing};
 ghost use Rattle.ground_step.specs.Edits.{with_parts, without_parts};
 ghost use Rattle.ground_step.specs.Marks.{marks_of, with_marked};
 
@@ -11,7 +14,7 @@ use crate::conditions::{guard_holds, holds};
 use ground_model::{Guarded, State};
 
 /// How many guarded parts have a mark: one for each bit of a word.
-const MARKS: usize = 64;
+pub(crate) const MARKS: usize = 64;
 
 /// Which of the first guarded parts hold, the first in the lowest bit, and a cost with that of all that
 /// hold.
@@ -21,22 +24,44 @@ pub(crate) struct Held {
     pub(crate) cost: u64,
 }
 
+/// Whether the condition of a part holds in a state. The lowest of the marks is that of the part: without one the
+/// condition is not tested.
+#[inline(always)]
+fn part_holds(part: &Guarded, before: &State, marks: u64) -> bool
+    requires { nat_eq (marks % 2) 1 ≡ false → IsNever part.now.condition }
+    ensures { result ≡ truth (has_bit before.now) part.now.condition }
+{
+    marks % 2 == 1 && guard_holds(&part.condition, before)
+}
+
 /// Makes false what these parts delete where their condition holds in the state before, and answers
 /// which these are, and a cost with theirs.
-fn delete_marked(state: &mut State, parts: &[Guarded], before: &State, cost: u64) -> Held
+fn delete_marked(
+    state: &mut State,
+    parts: &[Guarded],
+    before: &State,
+    cost: u64,
+    acting: u64,
+) -> Held
     requires marks { length parts.now ≤ 64 }
+    requires acting { AreActing acting parts.now }
     requires cost { cost + active_cost (has_bit before.now) parts.now < 2 ^ 64 }
     ensures state { state.new ≡ without_parts (has_bit before.now) state.old parts.now }
     ensures marks { result.marks ≡ marks_of (has_bit before.now) parts.now }
     ensures cost { result.cost ≡ cost + active_cost (has_bit before.now) parts.now }
 {
     let mut held = Held { marks: 0, cost };
+    let mut left = acting;
     for (place, part) in parts.iter().enumerate() {
-        if guard_holds(&part.condition, before) {
+        if left == 0 {
+            return held;
+        }
+        if part_holds(part, before, left) {
             delete_all(state, part.deletes.as_slice());
             held.marks += 1 << place;
             held.cost += part.cost;
         }
+        left /= 2;
     }
     held
 }
@@ -65,14 +90,16 @@ pub(crate) fn delete_guarded(
     parts: &[Guarded],
     before: &State,
     cost: u64,
+    acting: u64,
 ) -> Held
-    requires { cost + active_cost (has_bit before.now) parts.now < 2 ^ 64 }
+    requires acting { AreActing acting (take 64 parts.now) }
+    requires cost { cost + active_cost (has_bit before.now) parts.now < 2 ^ 64 }
     ensures state { state.new ≡ without_parts (has_bit before.now) state.old parts.now }
     ensures marks { result.marks ≡ marks_of (has_bit before.now) (take 64 parts.now) }
     ensures cost { result.cost ≡ cost + active_cost (has_bit before.now) parts.now }
 {
     let (first, others) = parts.split_at(MARKS.min(parts.len()));
-    let held = delete_marked(state, first, before, cost);
+    let held = delete_marked(state, first, before, cost, acting);
     let cost = delete_others(state, others, before, held.cost);
     Held {
         marks: held.marks,

@@ -12,6 +12,7 @@ mod conditions;
 mod guarded;
 mod hashing;
 mod laws;
+mod prepared_choice;
 mod steps;
 mod true_bits;
 
@@ -21,6 +22,7 @@ pub use changes::{make_false, make_true};
 pub use conditions::holds;
 pub use hashing::hash;
 pub use laws::step_laws;
+pub use prepared_choice::PreparedChoice;
 pub use steps::{applicable, apply, is_goal, successor};
 pub use true_bits::{TrueAtoms, true_atoms};
 

@@ -1,9 +1,10 @@
 //! The steps of a ground problem.
 
-ghost use Rattle.std.specs.Prelude.{◌≡◌, ◌<◌, ◌≤◌, Some, length, option_map};
+ghost use Rattle.std.specs.Prelude.{◌≡◌, ◌<◌, ◌≤◌, Some, length, option_map, take};
 ghost use Rattle.ground_model.specs.Packed.{has_bit};
 ghost use Rattle.ground_model.specs.Choices.{cost_of, next_state};
 ghost use Rattle.ground_model.specs.Steps.{is_open, ground_process};
+ghost use Rattle.ground_step.specs.Acting.{AreActing};
 ghost use Rattle.ground_step.specs.Steps.{choices_of, next_at, cost_at};
 
 use crate::changes::{add_all, copy_bits, delete_all};
@@ -27,6 +28,24 @@ pub fn is_goal(problem: &GroundProblem, state: &State) -> bool
 }
 
 /// Writes the state after a choice into a state of the same length, and answers what the choice costs,
+/// in micro-units. The marks say which of the first guarded parts can act.
+pub(crate) fn apply_acting(choice: &Choice, acting: u64, state: &State, into: &mut State) -> u64
+    requires acting { AreActing acting (take 64 choice.now.guarded) }
+    requires fits { length into.old ≡ length state.now }
+    requires cost { cost_of (has_bit state.now) choice.now ≤ MOST_CHOICE_COST }
+    ensures next { into.new ≡ next_state state.now choice.now }
+    ensures cost { result ≡ cost_of (has_bit state.now) choice.now }
+{
+    let guarded = choice.guarded.as_slice();
+    copy_bits(state, into);
+    delete_all(into, choice.deletes.as_slice());
+    let held = delete_guarded(into, guarded, state, choice.cost, acting);
+    add_all(into, choice.adds.as_slice());
+    add_guarded(into, guarded, state, held.marks);
+    held.cost
+}
+
+/// Writes the state after a choice into a state of the same length, and answers what the choice costs,
 /// in micro-units.
 ///
 /// Guarded parts act where their condition holds in the state before, and all deletes act before all
@@ -37,13 +56,7 @@ pub fn apply(choice: &Choice, state: &State, into: &mut State) -> u64
     ensures next { into.new ≡ next_state state.now choice.now }
     ensures cost { result ≡ cost_of (has_bit state.now) choice.now }
 {
-    let guarded = choice.guarded.as_slice();
-    copy_bits(state, into);
-    delete_all(into, choice.deletes.as_slice());
-    let held = delete_guarded(into, guarded, state, choice.cost);
-    add_all(into, choice.adds.as_slice());
-    add_guarded(into, guarded, state, held.marks);
-    held.cost
+    apply_acting(choice, u64::MAX, state, into)
 }
 
 /// Writes the state after a choice of an action into a state of the same length, and answers what the

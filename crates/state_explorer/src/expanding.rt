@@ -11,39 +11,38 @@ ghost use Rattle.state_explorer.specs.Found.{Grows, IsRoomFor};
 use crate::listing::Listing;
 use crate::scratch::Scratch;
 use distinct_actions::{DistinctActions, enough_laws};
-use ground_model::{GroundProblem, State};
-use ground_step::{apply, is_goal};
+use ground_model::State;
+use ground_step::is_goal;
 use kept_transitions::{idle_law, is_idle};
 use std::alloc::AllocError;
 
 /// Lists what the choices of the action with this code lead to, in their order, until more than `most` states are
 /// listed. An idle choice leads to the state itself, which is listed.
 fn add_choices(
-    problem: &GroundProblem,
+    index: &DistinctActions<'_>,
     code: u16,
     state: &State,
     next: &mut State,
     listing: &mut Listing,
     most: usize,
 ) -> Result<(), AllocError>
-    requires code { code < length problem.now.actions }
+    requires code { code < length index.now.actions }
     requires fits { length next.old ≡ length state.now }
     requires room { length listing.old ≤ most }
     requires listed { Contains listing.old state.now }
-    ensures grows { let found = nexts (ground_process problem.now) code state.now
+    ensures grows { let found = nexts (ground_process index.now) code state.now
         in OnOk result (Grows most found listing.old listing.new) }
     ensures fits { length next.new ≡ length state.now }
 {
-    let action = &problem.actions()[code as usize];
-    for choice in action.choices.as_slice() {
+    for choice in index.choices(code) {
         if listing.len() > most {
             return Ok(());
         }
-        if is_idle(choice) {
+        if is_idle(choice.choice()) {
             idle_law(state);
             continue;
         }
-        apply(choice, state, next);
+        choice.apply(state, next);
         listing.add(next)?;
     }
     Ok(())
@@ -51,18 +50,18 @@ fn add_choices(
 
 /// Lists what the actions with these codes lead to, in their order, until more than `most` states are listed.
 fn add_actions(
-    problem: &GroundProblem,
+    index: &DistinctActions<'_>,
     codes: &[u16],
     state: &State,
     next: &mut State,
     listing: &mut Listing,
     most: usize,
 ) -> Result<(), AllocError>
-    requires codes { All (λ k. k < length problem.now.actions) codes.now }
+    requires codes { All (λ k. k < length index.now.actions) codes.now }
     requires fits { length next.old ≡ length state.now }
     requires room { length listing.old ≤ most }
     requires listed { Contains listing.old state.now }
-    ensures grows { let process = ground_process problem.now
+    ensures grows { let process = ground_process index.now
         in let found = flat_map (λ k. nexts process k state.now) codes.now
         in OnOk result (Grows most found listing.old listing.new) }
     ensures fits { length next.new ≡ length state.now }
@@ -71,7 +70,7 @@ fn add_actions(
         if listing.len() > most {
             return Ok(());
         }
-        add_choices(problem, *code, state, next, listing, most)?;
+        add_choices(index, *code, state, next, listing, most)?;
     }
     Ok(())
 }
@@ -94,13 +93,12 @@ pub(crate) fn expand(
     ensures scratch { IsRoomFor index.now scratch.new }
 {
     enough_laws();
-    let problem = index.problem();
-    if is_goal(problem, state) {
+    if is_goal(index.problem(), state) {
         return Ok(());
     }
     index.fill(state, &mut scratch.codes);
     add_actions(
-        problem,
+        index,
         scratch.codes.as_slice(),
         state,
         &mut scratch.next,

@@ -13,6 +13,7 @@ use Rattle.ground_model.proofs.state.State.TheSendSync as state_crosses
 use Rattle.ground_model.proofs.start.Start.TheSendSync as start_crosses
 use Rattle.open_actions.proofs.entry_runs.EntryRuns.TheSendSync as runs_cross
 use Rattle.open_actions.proofs.word_test.WordTest.TheSendSync as test_crosses
+use Rattle.distinct_actions.proofs.span.Span.TheSendSync as span_crosses
 use Rattle.distinct_actions.proofs.distinct_codes.DistinctCodes.TheSendSync as distinct_cross
 use Rattle.kept_transitions.proofs.kept.Kept.TheSendSync as kept_crosses
 use Rattle.bellman_backup.proofs.steps.Steps.TheSendSync as steps_cross
@@ -24,8 +25,10 @@ use Rattle.ground_model.specs.contracts.action.Guarded as guarded
 use Rattle.ground_model.specs.contracts.action.Choice as choice
 use Rattle.ground_model.specs.contracts.action.GroundAction as action
 use Rattle.ground_model.specs.contracts.problem.GroundProblem as problem
+use Rattle.ground_step.specs.contracts.prepared_choice.PreparedChoice as prepared_choice
 use Rattle.open_actions.specs.contracts.masked.Masked as masked
 use Rattle.open_actions.specs.contracts.action_index.ActionIndex as index
+use Rattle.distinct_actions.specs.contracts.prepared_actions.PreparedActions as prepared
 use Rattle.distinct_actions.specs.contracts.distinct_actions.DistinctActions as distinct
 use Rattle.word_table.specs.contracts.words.Words as words
 use Rattle.bellman_backup.specs.contracts.scratch.Scratch as scratch
@@ -79,11 +82,23 @@ masked_sync ℓ = search (sendable, crosses, list_crosses.the_sync, test_crosses
 pub index_sync : (ℓ : _) → IsSync (index.the_row ℓ)
 index_sync ℓ = search (sendable, crosses, list_crosses.the_sync, runs_cross.the_sync, masked_sync, problem_sync) depth 30
 
+pub prepared_choice_send : (ℓ : _) → IsSend (prepared_choice.the_row ℓ)
+prepared_choice_send ℓ = search (sendable, crosses, choice_sync) depth 30
+
+pub prepared_choice_sync : (ℓ : _) → IsSync (prepared_choice.the_row ℓ)
+prepared_choice_sync ℓ = search (sendable, crosses, choice_sync) depth 30
+
+pub prepared_send : (ℓ : _) → IsSend (prepared.the_row ℓ)
+prepared_send ℓ = search (sendable, crosses, span_crosses.the_send, prepared_choice_send) depth 30
+
+pub prepared_sync : (ℓ : _) → IsSync (prepared.the_row ℓ)
+prepared_sync ℓ = search (sendable, crosses, span_crosses.the_sync, prepared_choice_sync) depth 30
+
 pub distinct_send : (ℓ : _) → IsSend (distinct.the_row ℓ)
-distinct_send ℓ = search (sendable, crosses, index_send) depth 30
+distinct_send ℓ = search (sendable, crosses, index_send, prepared_send) depth 30
 
 pub distinct_sync : (ℓ : _) → IsSync (distinct.the_row ℓ)
-distinct_sync ℓ = search (sendable, crosses, index_sync) depth 30
+distinct_sync ℓ = search (sendable, crosses, index_sync, prepared_sync) depth 30
 
 pub scratch_send : (ℓ : _) → IsSend (scratch.the_row ℓ)
 scratch_send ℓ = search (sendable, crosses, distinct_send, distinct_sync, distinct_cross.the_send, state_crosses.the_send, steps_cross.the_send, kept_crosses.the_send, kept_crosses.the_sync, pass_crosses.the_send) depth 40

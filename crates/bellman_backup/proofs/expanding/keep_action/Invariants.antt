@@ -6,7 +6,7 @@ use Rattle.bellman_backup.proofs.expanding.keep_action.Given as goal
 
 abbrev pub invariant-loop-choice : goal.invariant-loop-choice
 invariant-loop-choice l = record {
-  so : ChoicesKept l.words l.initial.pass l.pass l.state l.action.choices l.initial.kept l.kept l.choice-index l.cost;
+  so : ChoicesKept l.words l.initial.pass l.pass l.state l.choices l.initial.kept l.kept l.choice-index l.cost;
   spare : l.lookup ≡ Find → l.pass.view.spare ≡ l.initial.pass.view.spare;
   fits : length l.next ≡ length l.state;
 }

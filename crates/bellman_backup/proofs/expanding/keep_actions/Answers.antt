@@ -1,7 +1,11 @@
-use Rattle.std.proofs.Common.{get_or, refl, ◌∙◌, arith, rules}
+use Rattle.std.proofs.Common.{◌<◌, length, get_or, refl, sym, ap, ◌∙◌, subst, arith}
+use Rattle.ground_model.specs.Ground.{Ground}
+use Rattle.ground_model.specs.Invariant.{IsGroundProblem}
+use Rattle.ground_step.specs.Steps.{choices_of}
 use Rattle.bellman_backup.proofs.Keeping.{keeps_again}
 use Rattle.bellman_backup.proofs.TransitionsKept.{actions_begin, actions_go_on}
-use Rattle.bellman_backup.proofs.OpenCodes.{code_is_inside, action_of_code, open_action_is_usable}
+use Rattle.bellman_backup.proofs.Stepping.{problem_of}
+use Rattle.bellman_backup.proofs.OpenCodes.{open_code_within, choices_are_usable}
 use Rattle.bellman_backup.proofs.expanding.keep_actions.Goals as goal
 
 pub loop-code-init : goal.loop-code-init
@@ -11,22 +15,18 @@ loop-code-init c = record {
   fits = c.requires.fits;
 }
 
-pub bounds-actions-code : goal.bounds-actions-code
-bounds-actions-code c =
-    code_is_inside c.args.words.now c.args.state.now c.args.codes.now c.requires.codes c.loop-code.code-index (search rules)
-    c.problem-problem.result.now c.problem-problem.ensures c.actions.result.now c.actions.ensures.value
+pub choices-choices-requires : goal.choices-choices-requires
+choices-choices-requires c =
+    subst (λ (g : Ground). get_or c.args.codes.now c.loop-code.code-index 0 < length g.actions) (sym c.requires.problem)
+    (open_code_within c.args.words.now.problem c.args.state.now c.args.codes.now c.requires.codes c.loop-code.code-index c.loop-code-test.true)
 
 pub keep_action-requires-clause-action : goal.keep_action-requires-clause-action
 keep_action-requires-clause-action c =
-    open_action_is_usable c.args.words.now c.args.state.now c.args.codes.now c.requires.codes c.loop-code.code-index (search rules)
-    c.problem-problem.result.now c.problem-problem.ensures c.actions.result.now c.actions.ensures.value
-    c.index-actions-code.result c.index-actions-code.is c.args.pass.now c.loop-code.pass c.actions.ensures.valid c.requires.state c.loop-code.invariant.so.keeps
-
-pub keep_action-requires-clause-coded : goal.keep_action-requires-clause-coded
-keep_action-requires-clause-coded c =
-    action_of_code c.args.words.now c.args.state.now c.args.codes.now c.requires.codes c.loop-code.code-index (search rules)
-    c.problem-problem.result.now c.problem-problem.ensures c.actions.result.now c.actions.ensures.value
-    c.index-actions-code.result c.index-actions-code.is
+    let b = c.args.words.now in let l = c.loop-code.pass in let keeps = c.loop-code.invariant.so.keeps in
+    choices_are_usable b.problem c.args.state.now c.args.codes.now c.requires.codes c.loop-code.code-index c.loop-code-test.true
+    c.args.pass.now.view l.view c.choices-choices.result.now (subst IsGroundProblem c.requires.problem c.choices-choices.ensures.valid)
+    (problem_of b l keeps.here) keeps.noted c.requires.state
+    (c.choices-choices.ensures.value ∙ ap (λ (g : Ground). choices_of g (get_or c.args.codes.now c.loop-code.code-index 0)) c.requires.problem)
 
 pub returns-then-not-keep_action-clause-keeps : goal.returns-then-not-keep_action-clause-keeps
 returns-then-not-keep_action-clause-keeps c =

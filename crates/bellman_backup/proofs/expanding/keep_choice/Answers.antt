@@ -15,7 +15,7 @@ returns-then-is_idle-clause-grown c = grown_all c.args.kept.now
 
 pub returns-then-is_idle-clause-kept : goal.returns-then-is_idle-clause-kept
 returns-then-is_idle-clause-kept c = λ _.
-    let idle : is_idle c.args.choice.now ≡ true = sym c.is_idle.ensures ∙ c.if-is_idle.true in
+    let idle : is_idle c.args.choice.now ≡ true = ap is_idle (sym c.choice.ensures) ∙ sym c.is_idle.ensures ∙ c.if-is_idle.true in
     idle_is_kept c.args.pass.now.view c.args.state.now c.args.choice.now c.args.kept.now idle (c.idle_law.ensures c.args.choice.now idle)
 
 pub apply-paid-requires-clause-cost : goal.apply-paid-requires-clause-cost
@@ -27,7 +27,7 @@ keep_id-requires-clause-wide c =
 
 pub returns-then-keep_id-clause-kept : goal.returns-then-keep_id-clause-kept
 returns-then-keep_id-clause-kept c = λ _.
-    let moves : is_idle c.args.choice.now ≡ false = sym c.is_idle.ensures ∙ c.if-is_idle.false in
+    let moves : is_idle c.args.choice.now ≡ false = ap is_idle (sym c.choice.ensures) ∙ sym c.is_idle.ensures ∙ c.if-is_idle.false in
     let w = c.keep_id.new.kept in
     id_is_kept c.args.pass.now.view c.keep_id.new.pass.view c.args.state.now c.args.choice.now c.args.kept.now w moves
     (subst (λ t. HasKeptId c.keep_id.new.pass.view t c.args.kept.now w) c.apply-paid.ensures.next (c.keep_id.ensures.kept c.if-keep_id.true))

@@ -1,9 +1,10 @@
 -- The first parts and the others are all of them.
-use Rattle.std.proofs.Common.{◌≡◌, ◌+◌, ℕ, Bool, List, take, drop, sym, ap, ◌∙◌, arith}
+use Rattle.std.proofs.Common.{◌≡◌, ◌+◌, ℕ, Bool, List, take, drop, sym, ap, ◌∙◌, subst, arith}
 use Rattle.std.proofs.lemmas.List.{take_min}
 use Rattle.ground_model.specs.declared.action.Guarded.{Guarded}
 use Rattle.ground_model.specs.Packed.{has_bit}
 use Rattle.ground_model.specs.Choices.{active_cost}
+use Rattle.ground_step.specs.Acting.{AreActing}
 use Rattle.ground_step.specs.Edits.{without_parts}
 use Rattle.ground_step.specs.Marks.{marks_of}
 use Rattle.ground_step.proofs.Marks.{without_parts-append, active_cost-append, all_parts}
@@ -15,11 +16,16 @@ both_cost : (bit : ℕ → Bool) (parts first others : List Guarded) (n : ℕ) �
 both_cost bit parts first others n front back =
     sym (ap (active_cost bit) (all_parts parts first others n front back)) ∙ active_cost-append bit first others
 
+pub delete_marked-held-requires-clause-acting : goal.delete_marked-held-requires-clause-acting
+delete_marked-held-requires-clause-acting c =
+    subst (AreActing c.args.acting)
+    (sym (c.split_at.ensures.front ∙ ap (λ n. take n c.args.parts.now) c.min.ensures ∙ take_min 64 c.args.parts.now)) c.requires.acting
+
 pub delete_marked-held-requires-clause-cost : goal.delete_marked-held-requires-clause-cost
 delete_marked-held-requires-clause-cost c =
     omega (
       arith,
-      c.requires,
+      c.requires.cost,
       both_cost (has_bit c.args.before.now) c.args.parts.now
           c.split_at.result.0.now c.split_at.result.1.now c.min.result c.split_at.ensures.front c.split_at.ensures.back,
     )
@@ -28,7 +34,7 @@ pub delete_others-cost-requires : goal.delete_others-cost-requires
 delete_others-cost-requires c =
     omega (
       arith,
-      c.requires,
+      c.requires.cost,
       c.delete_marked-held.ensures.cost,
       both_cost (has_bit c.args.before.now) c.args.parts.now
           c.split_at.result.0.now c.split_at.result.1.now c.min.result c.split_at.ensures.front c.split_at.ensures.back,

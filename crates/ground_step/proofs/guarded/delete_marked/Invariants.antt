@@ -1,6 +1,7 @@
 use Rattle.std.proofs.Common.{◌≡◌, ◌+◌, ◌*◌, ◌^◌, drop}
 use Rattle.ground_model.specs.Packed.{has_bit}
 use Rattle.ground_model.specs.Choices.{active_cost}
+use Rattle.ground_step.specs.Acting.{AreActing}
 use Rattle.ground_step.specs.Edits.{without_parts}
 use Rattle.ground_step.specs.Marks.{marks_of}
 use Rattle.ground_step.proofs.guarded.delete_marked.Given as goal
@@ -13,3 +14,4 @@ invariant-loop-place l =
     ≡ marks_of (has_bit l.before) l.parts)
     × (l.held.cost + active_cost (has_bit l.before) (drop l.place l.parts)
     ≡ l.cost + active_cost (has_bit l.before) l.parts)
+    × AreActing l.left (drop l.place l.parts)

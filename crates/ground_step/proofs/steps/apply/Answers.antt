@@ -1,24 +1,10 @@
--- What is written one after another is the next state.
-use Rattle.std.proofs.Common.{◌∙◌, ℕ, Bool}
-use Rattle.ground_model.specs.Packed.{has_bit}
-use Rattle.ground_step.specs.Edits.{with_atoms, without_atoms, with_parts, without_parts}
-use Rattle.ground_step.proofs.Edits.{changed_is_next}
+-- Where each part has a mark, none is left out.
+use Rattle.std.proofs.Common.{refl, take, length, arith}
+use Rattle.std.proofs.lemmas.List.{length-take}
+use Rattle.ground_step.proofs.ActingParts.{all_act}
 use Rattle.ground_step.proofs.steps.apply.Goals as goal
 
-pub returns-clause-next : goal.returns-clause-next
-returns-clause-next c =
-    let bit : ℕ → Bool = has_bit c.args.state.now in
-    c.add_guarded.ensures
-    ∙ (λ i. with_parts bit (c.add_all.ensures i) (c.as_slice-guarded.ensures i))
-    ∙ (λ i. with_parts bit (with_atoms (c.delete_guarded-held.ensures.state i) (c.as_slice-2.ensures i)) c.args.choice.now.guarded)
-    ∙ (λ i.
-    with_parts bit
-    (with_atoms (without_parts bit (c.delete_all.ensures i) (c.as_slice-guarded.ensures i)) c.args.choice.now.adds)
-    c.args.choice.now.guarded)
-    ∙ (λ i.
-    with_parts bit
-    (with_atoms
-    (without_parts bit (without_atoms (c.copy_bits.ensures i) (c.as_slice.ensures i)) c.args.choice.now.guarded)
-    c.args.choice.now.adds)
-    c.args.choice.now.guarded)
-    ∙ changed_is_next c.args.state.now c.args.choice.now
+pub apply_acting-requires-clause-acting : goal.apply_acting-requires-clause-acting
+apply_acting-requires-clause-acting c =
+    let long = length-take 64 c.args.choice.now.guarded in
+    all_act 64 18446744073709551615 (take 64 c.args.choice.now.guarded) refl (omega arith)

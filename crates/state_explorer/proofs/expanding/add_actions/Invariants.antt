@@ -9,5 +9,5 @@ use Rattle.state_explorer.proofs.expanding.add_actions.Given as goal
 abbrev pub invariant-loop-code : goal.invariant-loop-code
 invariant-loop-code l = record {
   fits : length l.next ≡ length l.state;
-  grows : Grows l.most (flat_map (λ k. nexts (ground_process l.problem) k l.state) (take l.code-index l.codes)) l.initial.listing l.listing;
+  grows : Grows l.most (flat_map (λ k. nexts (ground_process l.index) k l.state) (take l.code-index l.codes)) l.initial.listing l.listing;
 }

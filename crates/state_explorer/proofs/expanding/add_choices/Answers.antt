@@ -6,30 +6,23 @@ use Rattle.ground_model.specs.Packed.{State, has_bit}
 use Rattle.ground_model.specs.Choices.{after, next_state}
 use Rattle.ground_model.proofs.Packed.{length-packed}
 use Rattle.state_explorer.specs.Found.{IsAdded, Grows}
-use Rattle.state_explorer.proofs.Choices.{read_still, action_is, choice_costs, nexts_are}
+use Rattle.kept_transitions.specs.Idle.{is_idle}
+use Rattle.state_explorer.proofs.Choices.{choice_costs, nexts_are}
 use Rattle.state_explorer.proofs.Growth.{grows_image, images_past, still_listed}
 use Rattle.state_explorer.proofs.expanding.add_choices.Goals as goal
 
-pub bounds-actions-code : goal.bounds-actions-code
-bounds-actions-code c = omega (arith, ap length c.actions.ensures.value, c.requires.code)
-
 pub apply-requires-clause-cost : goal.apply-requires-clause-cost
 apply-requires-clause-cost c =
-    let g = c.args.problem.now in let code = c.args.code in let a = c.index-actions-code.result in
-    let read = read_still g c.actions.result.now code a c.actions.ensures.value c.index-actions-code.is in
-    choice_costs (length g.atoms) a (action_is g c.actions.ensures.valid code a c.requires.code read)
-    c.as_slice-choice-items.result.now c.as_slice-choice-items.ensures
+    choice_costs c.args.index.now c.choices-choice-items.ensures.valid c.args.code c.choices-choice-items.result.now c.choices-choice-items.ensures.value
     c.loop-choice.choice-index c.choice-item.result c.loop-choice-test.true c.choice-item.is (has_bit c.args.state.now)
 
 pub returns-then-len-most-clause-grows : goal.returns-then-len-most-clause-grows
 returns-then-len-most-clause-grows c =
-    let g = c.args.problem.now in let code = c.args.code in let a = c.index-actions-code.result in let s = c.args.state.now in
-    let read = read_still g c.actions.result.now code a c.actions.ensures.value c.index-actions-code.is in
-    let l = c.args.listing.now in let m = c.loop-choice.listing in
+    let s = c.args.state.now in let l = c.args.listing.now in let m = c.loop-choice.listing in
     let past : c.args.most < length m = omega (arith, c.len.ensures.count, c.if-len-most.true) in
     subst (λ (found : List State). Grows c.args.most found l m)
-    (ap (map (next_state s)) c.as_slice-choice-items.ensures ∙ sym (nexts_are g s code a c.requires.code read))
-    (images_past c.args.most c.as_slice-choice-items.result.now c.loop-choice.choice-index (next_state s) l m c.loop-choice.invariant.grows past)
+    (ap (map (next_state s)) c.choices-choice-items.ensures.value ∙ sym (nexts_are c.args.index.now s c.args.code))
+    (images_past c.args.most c.choices-choice-items.result.now c.loop-choice.choice-index (next_state s) l m c.loop-choice.invariant.grows past)
 
 pub returns-in_err-add-clause-fits : goal.returns-in_err-add-clause-fits
 returns-in_err-add-clause-fits c =
@@ -41,7 +34,7 @@ loop-choice-preserved c =
     let x = c.choice-item.result in
     record {
       fits = ap length c.apply.ensures.next ∙ length-packed (after (has_bit c.args.state.now) x) (length c.args.state.now);
-      grows = grows_image c.args.most c.as_slice-choice-items.result.now c.loop-choice.choice-index (next_state c.args.state.now) x
+      grows = grows_image c.args.most c.choices-choice-items.result.now c.loop-choice.choice-index (next_state c.args.state.now) x
           c.args.listing.now c.loop-choice.listing c.add.new.self c.loop-choice-test.true c.loop-choice.invariant.grows room
           (subst (λ (t : State). IsAdded c.loop-choice.listing c.add.new.self t)
           (c.apply.ensures.next ∙ ap (next_state c.args.state.now) c.choice-item.is) c.in_ok-add.ensures);
@@ -50,10 +43,10 @@ loop-choice-preserved c =
 -- a choice that is idle leads to the state itself, which is listed
 pub loop-choice-preserved-then-is_idle : goal.loop-choice-preserved-then-is_idle
 loop-choice-preserved-then-is_idle c =
-    let s = c.args.state.now in let cs = c.as_slice-choice-items.result.now in let i = c.loop-choice.choice-index in let x = c.choice-item.result in
+    let s = c.args.state.now in let cs = c.choices-choice-items.result.now in let i = c.loop-choice.choice-index in let x = c.choice-item.result in
     let old = c.args.listing.now in let l = c.loop-choice.listing in let grows = c.loop-choice.invariant.grows in
     let room : length l ≤ c.args.most = omega (arith, c.len.ensures.count, c.if-len-most.false) in
-    let stays : s ≡ next_state s x = sym (c.idle_law.ensures x (sym c.is_idle.ensures ∙ c.if-is_idle.true)) in
+    let stays : s ≡ next_state s x = sym (c.idle_law.ensures x (ap is_idle (sym c.choice.ensures) ∙ sym c.is_idle.ensures ∙ c.if-is_idle.true)) in
     let here : Contains l (next_state s x) = subst (Contains l) stays (still_listed c.args.most (map (next_state s) (take i cs)) old l s grows c.requires.listed) in
     record {
       fits = c.loop-choice.invariant.fits;
@@ -63,11 +56,9 @@ loop-choice-preserved-then-is_idle c =
 
 pub returns-clause-grows : goal.returns-clause-grows
 returns-clause-grows c =
-    let g = c.args.problem.now in let code = c.args.code in let a = c.index-actions-code.result in let s = c.args.state.now in
-    let read = read_still g c.actions.result.now code a c.actions.ensures.value c.index-actions-code.is in
-    let items = c.as_slice-choice-items.result.now in
+    let s = c.args.state.now in let items = c.choices-choice-items.result.now in
     let all : c.loop-choice.choice-index ≡ length items = omega (arith, c.loop-choice-test.false) in
     let taken : take c.loop-choice.choice-index items ≡ items = subst (λ n. take n items ≡ items) (sym all) (take-length items) in
     subst (λ (found : List State). Grows c.args.most found c.args.listing.now c.loop-choice.listing)
-    (ap (map (next_state s)) (taken ∙ c.as_slice-choice-items.ensures) ∙ sym (nexts_are g s code a c.requires.code read))
+    (ap (map (next_state s)) (taken ∙ c.choices-choice-items.ensures.value) ∙ sym (nexts_are c.args.index.now s c.args.code))
     c.loop-choice.invariant.grows

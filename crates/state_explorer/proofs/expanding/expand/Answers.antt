@@ -17,7 +17,7 @@ pub returns-then-is_goal-clause-grows : goal.returns-then-is_goal-clause-grows
 returns-then-is_goal-clause-grows c =
     let g = c.args.index.now in
     let on : (ground_process g).goal c.args.state.now ≡ true =
-    ap (λ (p : Ground). (ground_process p).goal c.args.state.now) (sym c.problem-problem.ensures) ∙ sym c.is_goal.ensures ∙ c.if-is_goal.true in
+    ap (λ (p : Ground). (ground_process p).goal c.args.state.now) (sym c.problem.ensures) ∙ sym c.is_goal.ensures ∙ c.if-is_goal.true in
     subst (λ (found : List State). Grows c.args.most found c.args.listing.now c.args.listing.now) (successors_at g c.args.state.now on)
     (grows_none c.args.most c.args.listing.now)
 
@@ -27,7 +27,7 @@ add_actions-requires-clause-codes c =
     let s = c.args.state.now in
     let cs = c.as_slice.result.now in
     let enough : AreEnough g s cs = subst (λ (xs : List ℕ). AreEnough g s xs) (sym c.as_slice.ensures) c.fill.ensures.codes in
-    subst (λ (p : Ground). All (λ k. k < length p.actions) cs) (sym c.problem-problem.ensures) (codes_within g s cs enough)
+    codes_within g s cs enough
 
 pub returns-clause-grows : goal.returns-clause-grows
 returns-clause-grows c =
@@ -35,11 +35,11 @@ returns-clause-grows c =
     let s = c.args.state.now in
     let m = c.add_actions.new.listing in
     let off : (ground_process g).goal s ≡ false =
-    ap (λ (p : Ground). (ground_process p).goal s) (sym c.problem-problem.ensures) ∙ sym c.is_goal.ensures ∙ c.if-is_goal.false in
+    ap (λ (p : Ground). (ground_process p).goal s) (sym c.problem.ensures) ∙ sym c.is_goal.ensures ∙ c.if-is_goal.false in
     let cs = c.as_slice.result.now in
     let enough : AreEnough g s cs = subst (λ (xs : List ℕ). AreEnough g s xs) (sym c.as_slice.ensures) c.fill.ensures.codes in
     on_ok_weaker c.add_actions.result
     (λ grows. grows_same c.args.most (flat_map (λ k. nexts (ground_process g) k s) cs) (successors (ground_process g) s) c.args.listing.now m
     (c.enough_laws.ensures.successors g s cs enough off)
-    (subst (λ (p : Ground). Grows c.args.most (flat_map (λ k. nexts (ground_process p) k s) cs) c.args.listing.now m) c.problem-problem.ensures grows))
+    grows)
     c.add_actions.ensures.grows

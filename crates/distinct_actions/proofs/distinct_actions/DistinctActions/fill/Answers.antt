@@ -12,4 +12,4 @@ returns-clause-codes c =
     let index = c.self.inside.index in
     subst (AreEnough c.args.self.now s) (sym c.fill.ensures.codes)
     (subst (λ (g : Ground). AreEnough g s (kept_choices index s)) c.self.view_is
-    (kept_are_enough index.problem s index.left_out c.self.invariant))
+    (kept_are_enough index.problem s index.left_out c.self.invariant.repeats))
