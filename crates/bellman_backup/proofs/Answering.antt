@@ -5,14 +5,14 @@ use Rattle.std.proofs.lemmas.List.Sums.{sum-map, sum_by-cons}
 use Rattle.std.specs.List.{AllZip}
 use Rattle.std.proofs.lemmas.List.Elements.{All-nil, All-cons, All-same, All-contains, All-map, Contains-append_right}
 use Rattle.plain_list.proofs.Members.{Contains-first}
-use Rattle.weighted.specs.Mean.{total}
+use Rattle.plain_list.specs.weighted.Mean.{total}
 use Rattle.ground_model.specs.declared.action.Choice.{Choice}
 use Rattle.ground_model.specs.Packed.{State}
 use Rattle.ground_model.specs.Choices.{next_state}
 use Rattle.ground_model.specs.Ground.{Ground}
 use Rattle.ground_model.specs.Invariant.{IsGroundProblem}
-use Rattle.word_view.specs.declared.view.View.{View}
-use Rattle.word_view.specs.Views.{knows}
+use Rattle.word_table.specs.declared.view.View.{View}
+use Rattle.word_table.specs.view.Views.{knows}
 use Rattle.brtdp_trial.specs.Meaning.{Last, AreChoices, IsInterval, LeadsToKnown}
 use Rattle.brtdp_trial.specs.Meaning as meaning
 use Rattle.brtdp_trial.specs.Listed.{no_action}

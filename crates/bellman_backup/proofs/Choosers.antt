@@ -12,9 +12,9 @@ use Rattle.decision_process.proofs.Choice.{min_with_is_least}
 use Rattle.ground_model.specs.Packed.{State}
 use Rattle.ground_model.specs.Ground.{Ground}
 use Rattle.bound_core.specs.Numbers.{quit_word}
-use Rattle.word_view.specs.declared.view.View.{View}
-use Rattle.word_view.specs.Laws.{IsLater}
-use Rattle.word_rule.specs.Told.{HasOneEach}
+use Rattle.word_table.specs.declared.view.View.{View}
+use Rattle.word_table.specs.view.Laws.{IsLater}
+use Rattle.word_table.specs.rule.Told.{HasOneEach}
 use Rattle.brtdp_trial.specs.declared.step.Step.{Step}
 use Rattle.brtdp_trial.specs.declared.step.TheConstants.{GIVE_UP}
 use Rattle.brtdp_trial.specs.Meaning.{Last}

@@ -12,16 +12,16 @@ use Rattle.ground_model.specs.Packed.{State}
 use Rattle.ground_model.specs.Ground.{Ground}
 use Rattle.ground_model.specs.Invariant.{IsGroundProblem}
 use Rattle.ground_model.specs.Steps.{ground_process}
-use Rattle.distinct_actions.specs.Enough.{AreEnough}
-use Rattle.distinct_actions.specs.Laws.{LowerByEnough, UpperByEnough}
+use Rattle.applicable_actions.specs.distinct.Enough.{AreEnough}
+use Rattle.applicable_actions.specs.distinct.Laws.{LowerByEnough, UpperByEnough}
 use Rattle.bound_core.specs.Numbers.{quit_word, IsSupported}
-use Rattle.word_view.specs.declared.view.View.{View}
-use Rattle.word_view.specs.Views.{number, knows, has_state, seen_lower, seen_upper, noted_lower, noted_upper, CanRaise, CanSink}
-use Rattle.word_view.specs.Steps.{with_count, with_lower}
-use Rattle.word_view.proofs.Lists.{is_first}
-use Rattle.word_view.specs.Laws.{HasMore}
-use Rattle.word_view.proofs.Seen.{has_state_more, raised_is_seen, sunk_is_seen, greatest_within, greatest_over, least_within, least_under}
-use Rattle.word_rule.specs.Told.{HasOneEach}
+use Rattle.word_table.specs.declared.view.View.{View}
+use Rattle.word_table.specs.view.Views.{number, knows, has_state, seen_lower, seen_upper, noted_lower, noted_upper, CanRaise, CanSink}
+use Rattle.word_table.specs.view.Steps.{with_count, with_lower}
+use Rattle.word_table.proofs.lemmas.view.Lists.{is_first}
+use Rattle.word_table.specs.view.Laws.{HasMore}
+use Rattle.word_table.proofs.lemmas.view.Seen.{has_state_more, raised_is_seen, sunk_is_seen, greatest_within, greatest_over, least_within, least_under}
+use Rattle.word_table.specs.rule.Told.{HasOneEach}
 use Rattle.word_table.specs.Seen.{Board, Knowledge, knowledge, IsOf}
 use Rattle.brtdp_trial.specs.declared.step.Step.{Step}
 use Rattle.brtdp_trial.specs.declared.step.TheConstants.{AT_GOAL}

@@ -1,12 +1,12 @@
 -- The same pass later.
 use Rattle.std.proofs.Common.{◌≡◌, ℕ, Bool, true, false, cond, nat_eq, List, [], ◌∷◌, ◌++◌, refl, sym, ap, ◌∙◌, subst, append_assoc, arith}
-use Rattle.word_view.specs.declared.notes.Look.{Look}
-use Rattle.word_view.specs.declared.notes.Look.TheVariants.{End}
-use Rattle.word_view.specs.declared.view.View.{View}
-use Rattle.word_view.specs.Laws.{HasMore}
-use Rattle.word_view.specs.Steps.{with_lower, with_upper, with_lower_load, with_upper_load, with_count, with_state_word, united, without_rights}
-use Rattle.word_view.proofs.Seen.{more_is_later}
-use Rattle.word_view.proofs.Noting.{noted_is_more, united_is_more}
+use Rattle.word_table.specs.declared.view.notes.Look.{Look}
+use Rattle.word_table.specs.declared.view.notes.Look.TheVariants.{End}
+use Rattle.word_table.specs.declared.view.View.{View}
+use Rattle.word_table.specs.view.Laws.{HasMore}
+use Rattle.word_table.specs.view.Steps.{with_lower, with_upper, with_lower_load, with_upper_load, with_count, with_state_word, united, without_rights}
+use Rattle.word_table.proofs.lemmas.view.Seen.{more_is_later}
+use Rattle.word_table.proofs.lemmas.view.Noting.{noted_is_more, united_is_more}
 use Rattle.word_table.specs.Seen.{Board, Knowledge, knowledge, IsOf}
 use Rattle.bound_words.specs.declared.bounds.Interval.{Interval}
 use Rattle.bound_words.specs.Intervals.{with_interval, word_in}

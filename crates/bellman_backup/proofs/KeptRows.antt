@@ -6,10 +6,10 @@ use Rattle.ground_model.specs.declared.action.GroundAction.{GroundAction}
 use Rattle.ground_model.specs.Packed.{State}
 use Rattle.ground_model.specs.Ground.{Ground}
 use Rattle.ground_model.specs.Steps.{ground_process}
-use Rattle.word_view.specs.declared.view.View.{View}
-use Rattle.word_view.specs.Views.{knows, has_state}
-use Rattle.word_view.specs.Laws.{HasMore}
-use Rattle.word_view.proofs.Seen.{more_is_later, has_state_more}
+use Rattle.word_table.specs.declared.view.View.{View}
+use Rattle.word_table.specs.view.Views.{knows, has_state}
+use Rattle.word_table.specs.view.Laws.{HasMore}
+use Rattle.word_table.proofs.lemmas.view.Seen.{more_is_later, has_state_more}
 use Rattle.word_table.specs.Seen.{Knowledge}
 use Rattle.state_interner.specs.Interned.{IsIdOf}
 use Rattle.kept_transitions.specs.declared.kept_action.KeptAction.{KeptAction}

@@ -8,13 +8,13 @@ use native.Mathlib.Decide.{dec_lt}
 use Rattle.fixed_round.specs.Words.{word_of}
 use Rattle.ground_model.specs.declared.action.GroundAction.{GroundAction}
 use Rattle.ground_model.specs.Invariant.{IsGroundProblem}
-use Rattle.distinct_actions.specs.Laws.{UpperByEnough}
+use Rattle.applicable_actions.specs.distinct.Laws.{UpperByEnough}
 use Rattle.bound_core.specs.Numbers.{quit_word}
-use Rattle.word_view.specs.Views.{number, knows, noted_lower, noted_upper}
-use Rattle.word_view.specs.Steps.{with_lower_load, with_upper_load}
-use Rattle.word_view.proofs.Lists.{is_first}
-use Rattle.word_view.proofs.Seen.{greatest_over, least_under}
-use Rattle.word_rule.specs.Told.{HasOneEach, HasOneState}
+use Rattle.word_table.specs.view.Views.{number, knows, noted_lower, noted_upper}
+use Rattle.word_table.specs.view.Steps.{with_lower_load, with_upper_load}
+use Rattle.word_table.proofs.lemmas.view.Lists.{is_first}
+use Rattle.word_table.proofs.lemmas.view.Seen.{greatest_over, least_under}
+use Rattle.word_table.specs.rule.Told.{HasOneEach, HasOneState}
 use Rattle.word_table.specs.Seen.{Board, Knowledge, knowledge, IsOf}
 use Rattle.brtdp_trial.specs.declared.step.Step.{Step}
 use Rattle.brtdp_trial.specs.declared.step.TheConstants.{GIVE_UP}

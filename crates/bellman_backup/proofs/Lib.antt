@@ -17,3 +17,4 @@ pub mod Quotients
 pub mod Leasts
 pub mod Racers
 pub mod StartWeights
+pub mod lemmas

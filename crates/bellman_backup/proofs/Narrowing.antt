@@ -23,13 +23,13 @@ use Rattle.ground_model.specs.Invariant.{IsAction, IsGroundProblem}
 use Rattle.ground_model.specs.Steps.{ground_process, own_action_value}
 use Rattle.ground_model.proofs.OwnDen.{lower_by_own_den, upper_by_own_den}
 use Rattle.ground_model.proofs.Steps.{slice_get-contains, den_positive}
-use Rattle.distinct_actions.specs.Enough.{AreEnough}
-use Rattle.distinct_actions.specs.Laws.{LowerByEnough, UpperByEnough}
+use Rattle.applicable_actions.specs.distinct.Enough.{AreEnough}
+use Rattle.applicable_actions.specs.distinct.Laws.{LowerByEnough, UpperByEnough}
 use Rattle.bound_core.specs.declared.codes.TheConstants.{GIVE_UP}
 use Rattle.bound_core.specs.Numbers.{act_of, first_word, quit_word, IsSupported}
-use Rattle.word_view.specs.declared.view.View.{View}
-use Rattle.word_view.specs.Views.{knows, has_state, seen_lower, seen_upper, CanRaise}
-use Rattle.word_view.specs.Laws.{IsLater}
+use Rattle.word_table.specs.declared.view.View.{View}
+use Rattle.word_table.specs.view.Views.{knows, has_state, seen_lower, seen_upper, CanRaise}
+use Rattle.word_table.specs.view.Laws.{IsLater}
 use Rattle.bellman_backup.specs.Readings.{Reading, IsReading}
 use Rattle.bellman_backup.specs.Candidates.{Found, sum_of, low, high, act_word, least_low, least_word}
 use Rattle.bellman_backup.specs.Backups.{IsFound, IsBackedUp, Narrows}

@@ -9,14 +9,14 @@ use Rattle.ground_model.specs.Packed.{State}
 use Rattle.ground_model.specs.Ground.{Ground}
 use Rattle.ground_model.specs.Steps.{ground_process}
 use Rattle.bound_core.specs.Numbers.{first_word, goal_word, quit_word}
-use Rattle.word_view.specs.declared.notes.Look.{Look}
-use Rattle.word_view.specs.declared.notes.Look.TheVariants.{End}
-use Rattle.word_view.specs.declared.view.View.{View}
-use Rattle.word_view.specs.Views.{number, knows, has_state, seen_lower, seen_upper, noted_lower, noted_upper}
-use Rattle.word_view.specs.Laws.{IsLater}
-use Rattle.word_view.proofs.Lists.{is_first}
-use Rattle.word_view.proofs.Seen.{greatest_over, least_under, least_first, seen_lower_is_greatest, seen_upper_is_least, later_is_reflexive, raised_is_seen, sunk_is_seen}
-use Rattle.word_rule.specs.Told.{HasOneEach}
+use Rattle.word_table.specs.declared.view.notes.Look.{Look}
+use Rattle.word_table.specs.declared.view.notes.Look.TheVariants.{End}
+use Rattle.word_table.specs.declared.view.View.{View}
+use Rattle.word_table.specs.view.Views.{number, knows, has_state, seen_lower, seen_upper, noted_lower, noted_upper}
+use Rattle.word_table.specs.view.Laws.{IsLater}
+use Rattle.word_table.proofs.lemmas.view.Lists.{is_first}
+use Rattle.word_table.proofs.lemmas.view.Seen.{greatest_over, least_under, least_first, seen_lower_is_greatest, seen_upper_is_least, later_is_reflexive, raised_is_seen, sunk_is_seen}
+use Rattle.word_table.specs.rule.Told.{HasOneEach}
 use Rattle.bound_words.specs.declared.bounds.Interval.{Interval}
 use Rattle.bound_words.specs.Intervals.{with_interval, word_in, TellsInterval}
 use Rattle.state_interner.specs.Interned.{AddsLooks, HasLooked, IsIdOf, IsFull}

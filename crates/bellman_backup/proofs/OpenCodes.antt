@@ -8,10 +8,10 @@ use Rattle.ground_model.specs.Packed.{State}
 use Rattle.ground_model.specs.Ground.{Ground}
 use Rattle.ground_model.specs.Invariant.{IsGroundProblem}
 use Rattle.ground_step.specs.Steps.{choices_at, choices_of}
-use Rattle.distinct_actions.specs.Enough.{AreEnough}
-use Rattle.distinct_actions.proofs.Opens.{open_action}
-use Rattle.word_view.specs.declared.view.View.{View}
-use Rattle.word_view.specs.Laws.{HasMore}
+use Rattle.applicable_actions.specs.distinct.Enough.{AreEnough}
+use Rattle.applicable_actions.proofs.lemmas.distinct.Opens.{open_action}
+use Rattle.word_table.specs.declared.view.View.{View}
+use Rattle.word_table.specs.view.Laws.{HasMore}
 use Rattle.word_table.specs.Seen.{Board, Knowledge}
 use Rattle.bellman_backup.specs.Backups.{Keeps}
 use Rattle.bellman_backup.specs.Choosing.{IsOpenState}

@@ -16,7 +16,7 @@ use Rattle.ground_model.specs.declared.action.GroundAction.{GroundAction}
 use Rattle.ground_model.specs.Ground.{Ground}
 use Rattle.ground_model.specs.Invariant.{IsAction, IsGroundProblem}
 use Rattle.ground_model.proofs.Steps.{slice_get-contains}
-use Rattle.distinct_actions.specs.Enough.{RepeatsLast}
+use Rattle.applicable_actions.specs.distinct.Enough.{RepeatsLast}
 use Rattle.bellman_backup.specs.declared.share.Share.{Share}
 use Rattle.bellman_backup.specs.declared.span.Span.{Span}
 use Rattle.bellman_backup.specs.Odds.{Odds, share_of, odds_of, odds_in, IsWithin, HavePlaced, HasPlaced}

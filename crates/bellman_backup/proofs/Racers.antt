@@ -5,7 +5,7 @@ use Rattle.std.specs.List.{list_any}
 use Rattle.std.proofs.lemmas.Bool.{eq-eqb, eqb-true, or_left, or_right}
 use Rattle.std.proofs.lemmas.Map.Views.{Contains-from_any}
 use Rattle.plain_list.proofs.Members.{Contains-nil, Contains-cons_cases}
-use Rattle.word_view.specs.Views.{knows}
+use Rattle.word_table.specs.view.Views.{knows}
 use Rattle.word_table.specs.Seen.{Board, Knowledge, IsOf}
 use Rattle.bellman_backup.specs.Scratches.{ScratchView, IsScratchOf}
 use Rattle.bellman_backup.specs.Races.{IsReady, IsRacing, Races}

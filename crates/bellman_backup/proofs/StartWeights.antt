@@ -3,7 +3,7 @@ use Rattle.std.proofs.Common.{◌≡◌, ℕ, ◌+◌, ◌<◌, ◌≤◌, ◌^�
 use Rattle.std.specs.Prelude.{All, sum, sum_by}
 use Rattle.std.proofs.lemmas.List.Sums.{sum-map, sum_by-cons}
 use Rattle.std.proofs.lemmas.List.Elements.{All-map}
-use Rattle.weighted.specs.Mean.{total}
+use Rattle.plain_list.specs.weighted.Mean.{total}
 use Rattle.ground_model.specs.declared.start.Start.{Start}
 use Rattle.ground_model.specs.Ground.{Ground}
 use Rattle.ground_model.specs.Invariant.{IsGroundProblem}

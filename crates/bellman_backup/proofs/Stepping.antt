@@ -17,12 +17,12 @@ use Rattle.ground_model.specs.Ground.{Ground}
 use Rattle.ground_model.specs.Invariant.{IsChoice, IsGroundProblem}
 use Rattle.ground_model.specs.Steps.{ground_process, den_of, is_open_at, outcome_of, step_at}
 use Rattle.ground_step.proofs.Outcomes.{cost_within}
-use Rattle.distinct_actions.specs.Enough.{AreEnough}
+use Rattle.applicable_actions.specs.distinct.Enough.{AreEnough}
 use Rattle.bound_core.specs.Numbers.{first_word}
-use Rattle.word_view.specs.declared.view.View.{View}
-use Rattle.word_view.specs.Views.{IsReached}
-use Rattle.word_view.specs.Laws.{HasMore}
-use Rattle.word_view.proofs.Seen.{more_is_later, has_state_more}
+use Rattle.word_table.specs.declared.view.View.{View}
+use Rattle.word_table.specs.view.Views.{IsReached}
+use Rattle.word_table.specs.view.Laws.{HasMore}
+use Rattle.word_table.proofs.lemmas.view.Seen.{more_is_later, has_state_more}
 use Rattle.word_table.specs.Seen.{Board, Knowledge, knowledge, IsOf}
 use Rattle.bound_words.specs.declared.bounds.Interval.{Interval}
 use Rattle.bound_words.specs.Intervals.{with_interval, word_in, TellsInterval}
@@ -141,9 +141,6 @@ pub record ReadSoFar (b : Board) (k l : Knowledge) (s : State) (cs : List Choice
   pub long : length steps ≡ i
   pub lower_room : sums.lower ≤ i * (10 ^ 18 * (11 * 10 ^ 13))
   pub upper_room : sums.upper ≤ i * (10 ^ 18 * (11 * 10 ^ 13))
-
-pub sums_fit : (i n : ℕ) → n ≤ i * (10 ^ 18 * (11 * 10 ^ 13)) → i ≤ 256 → n < 2 ^ 127
-sums_fit i n below few = omega arith
 
 pub step_is_small : (g : Ground) (v w : View) (s : State) (a : GroundAction) (c : Choice) (x : Step) (u : View) → IsUsable g u s a → Contains a.choices c
     → HasReadNext g v w (next_state s c) c.weight x → (cost : ℕ) → cost ≡ cost_of (has_bit s) c → IsSmallStep cost x

@@ -5,12 +5,12 @@ use Rattle.std.proofs.Math.Nat.{mul-le-mul_left, mul-le-mul_right}
 use Rattle.std.proofs.lemmas.List.{append-nil}
 use Rattle.fixed_round.specs.Means.{weighted}
 use Rattle.fixed_round.specs.Words.{value_of}
-use Rattle.weighted.specs.Mean.{total}
+use Rattle.plain_list.specs.weighted.Mean.{total}
 use Rattle.ground_model.specs.declared.action.Choice.{Choice}
 use Rattle.ground_model.specs.Packed.{State}
 use Rattle.ground_model.specs.Choices.{next_state}
 use Rattle.ground_model.specs.Ground.{Ground}
-use Rattle.word_view.specs.declared.view.View.{View}
+use Rattle.word_table.specs.declared.view.View.{View}
 use Rattle.brtdp_trial.specs.declared.step.Step.{Step}
 use Rattle.bellman_backup.specs.declared.sums.Sums.{Sums}
 use Rattle.bellman_backup.specs.Readings.{Reading, IsRead, loads_of, loads_in}

@@ -7,7 +7,7 @@ use Rattle.ground_model.specs.declared.action.Choice.{Choice}
 use Rattle.ground_model.specs.declared.action.GroundAction.{GroundAction}
 use Rattle.ground_model.specs.Packed.{State, has_bit}
 use Rattle.ground_model.specs.Choices.{cost_of, next_state}
-use Rattle.word_view.specs.declared.view.View.{View}
+use Rattle.word_table.specs.declared.view.View.{View}
 use Rattle.word_table.specs.Seen.{Board, Knowledge, IsOf}
 use Rattle.state_interner.specs.Interned.{IsIdOf}
 use Rattle.kept_transitions.specs.declared.kept_action.KeptAction.{KeptAction}

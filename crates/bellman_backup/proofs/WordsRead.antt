@@ -6,11 +6,11 @@ use Rattle.std.proofs.lemmas.List.{get_or-set_same, get_or-set_other}
 use mathlib.Core.Logic.{dite}
 use native.Mathlib.Decide.{ℕ_discrete}
 use Rattle.ground_model.specs.Packed.{State}
-use Rattle.word_view.specs.declared.notes.StateWord.{StateWord}
-use Rattle.word_view.specs.declared.view.View.{View}
-use Rattle.word_view.specs.Views.{state_word, has_word, has_words, has_state}
-use Rattle.word_view.specs.Laws.{IsLater}
-use Rattle.word_rule.specs.Told.{HasOneState}
+use Rattle.word_table.specs.declared.view.notes.StateWord.{StateWord}
+use Rattle.word_table.specs.declared.view.View.{View}
+use Rattle.word_table.specs.view.Views.{state_word, has_word, has_words, has_state}
+use Rattle.word_table.specs.view.Laws.{IsLater}
+use Rattle.word_table.specs.rule.Told.{HasOneState}
 use Rattle.bellman_backup.specs.Backups.{IsStateOf}
 
 -- the first n words of a state were noted

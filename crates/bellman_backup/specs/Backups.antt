@@ -17,10 +17,10 @@ use Rattle.ground_model.specs.Packed.{State}
 use Rattle.ground_model.specs.Choices.{next_state}
 use Rattle.ground_model.specs.Ground.{Ground}
 use Rattle.ground_model.specs.Steps.{ground_process}
-use Rattle.distinct_actions.specs.Enough.{AreEnough}
-use Rattle.word_view.specs.declared.view.View.{View}
-use Rattle.word_view.specs.Views.{has_state, noted_lower, noted_upper, seen_lower, seen_upper}
-use Rattle.word_view.specs.Laws.{HasMore}
+use Rattle.applicable_actions.specs.distinct.Enough.{AreEnough}
+use Rattle.word_table.specs.declared.view.View.{View}
+use Rattle.word_table.specs.view.Views.{has_state, noted_lower, noted_upper, seen_lower, seen_upper}
+use Rattle.word_table.specs.view.Laws.{HasMore}
 use Rattle.word_table.specs.Seen.{Board, Knowledge, IsOf}
 use Rattle.state_interner.specs.Interned.{AddsLooks}
 use Rattle.brtdp_trial.specs.declared.step.TheConstants.{AT_GOAL}

@@ -3,7 +3,7 @@ use Rattle.std.specs.Prelude.{◌≡◌, Some, [], ◌∷◌, refl}
 use Rattle.fixed_round.specs.Words.{word_of}
 use Rattle.ground_model.specs.Coin.{tails, flip}
 use Rattle.bound_core.specs.Numbers.{goal_word, quit_word}
-use Rattle.word_view.specs.declared.notes.Load.TheVariants.{Lower, Upper}
+use Rattle.word_table.specs.declared.view.notes.Load.TheVariants.{Lower, Upper}
 use Rattle.bellman_backup.specs.Readings.{Reading, loads_in}
 use Rattle.bellman_backup.specs.Candidates.{Found, low, high, least_low, least_word}
 

@@ -12,8 +12,8 @@ use Rattle.std.specs.Prelude.{◌≡◌, ℕ, ◌<◌, ◌≤◌, ◌/◌, min, 
 use Rattle.ground_model.specs.declared.action.GroundAction.{GroundAction}
 use Rattle.ground_model.specs.Packed.{State}
 use Rattle.ground_model.specs.Ground.{Ground}
-use Rattle.word_view.specs.declared.view.View.{View}
-use Rattle.word_view.specs.Views.{noted_lower, noted_upper}
+use Rattle.word_table.specs.declared.view.View.{View}
+use Rattle.word_table.specs.view.Views.{noted_lower, noted_upper}
 use Rattle.word_table.specs.Seen.{Board, Knowledge}
 use Rattle.brtdp_trial.specs.declared.step.Step.{Step}
 use Rattle.kept_transitions.specs.declared.kept_action.KeptAction.{KeptAction}

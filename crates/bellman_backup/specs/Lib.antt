@@ -13,3 +13,4 @@ pub mod Weighing
 pub mod Leasts
 pub mod Races
 pub mod Laws
+pub mod means

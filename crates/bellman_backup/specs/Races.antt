@@ -7,9 +7,9 @@ use Rattle.std.proofs.Common.{◌≡◌, ℕ, ◌<◌, refl, ap, ◌∙◌}
 use Rattle.std.specs.Prelude.{length, map, nat_eq, true}
 use Rattle.std.specs.List.{list_any}
 use Rattle.ground_model.specs.declared.start.Start.{Start}
-use Rattle.word_view.specs.declared.view.View.{View}
-use Rattle.word_view.specs.Views.{knows}
-use Rattle.word_view.specs.Laws.{HasMore}
+use Rattle.word_table.specs.declared.view.View.{View}
+use Rattle.word_table.specs.view.Views.{knows}
+use Rattle.word_table.specs.view.Laws.{HasMore}
 use Rattle.word_table.specs.Seen.{Board, Knowledge, IsOf}
 use Rattle.bellman_backup.specs.Scratches.{ScratchView, IsScratchOf}
 

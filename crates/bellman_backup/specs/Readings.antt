@@ -9,11 +9,11 @@ use Rattle.fixed_round.specs.Words.{value_of}
 use Rattle.ground_model.specs.Packed.{State}
 use Rattle.ground_model.specs.Ground.{Ground}
 use Rattle.bound_core.specs.Numbers.{first_word}
-use Rattle.word_view.specs.declared.notes.Load.{Load}
-use Rattle.word_view.specs.declared.notes.Load.TheVariants.{Lower, Upper}
-use Rattle.word_view.specs.declared.notes.Look.TheVariants.{End}
-use Rattle.word_view.specs.declared.view.View.{View}
-use Rattle.word_view.specs.Views.{knows, has_state, seen_lower, seen_upper, noted_lower, noted_upper}
+use Rattle.word_table.specs.declared.view.notes.Load.{Load}
+use Rattle.word_table.specs.declared.view.notes.Load.TheVariants.{Lower, Upper}
+use Rattle.word_table.specs.declared.view.notes.Look.TheVariants.{End}
+use Rattle.word_table.specs.declared.view.View.{View}
+use Rattle.word_table.specs.view.Views.{knows, has_state, seen_lower, seen_upper, noted_lower, noted_upper}
 use Rattle.state_interner.specs.Interned.{HasLooked}
 
 pub record Reading : Type 0 where

@@ -10,7 +10,7 @@ use Rattle.std.specs.Prelude.{◌≡◌, ◌≤◌, Option, Some, None, length}
 use Rattle.ground_model.specs.Packed.{State}
 use Rattle.ground_model.specs.Ground.{Ground}
 use Rattle.bound_core.specs.Core.{width}
-use Rattle.open_actions.specs.Codes.{Codes}
+use Rattle.applicable_actions.specs.Codes.{Codes}
 use Rattle.word_table.specs.Seen.{Board, Knowledge, IsOf}
 use Rattle.brtdp_trial.specs.declared.step.TheConstants.{GIVE_UP}
 use Rattle.brtdp_trial.specs.Meaning.{Last}

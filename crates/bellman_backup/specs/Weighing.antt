@@ -13,9 +13,9 @@ use Rattle.std.specs.Prelude.{◌≡◌, ℕ, true, false, Option, Some, None, L
 use Rattle.ground_model.specs.Packed.{State}
 use Rattle.ground_model.specs.Invariant.{IsGroundProblem}
 use Rattle.ground_model.specs.Steps.{ground_process}
-use Rattle.distinct_actions.specs.Enough.{AreEnough}
-use Rattle.word_view.specs.Steps.{with_count, with_lower, with_upper}
-use Rattle.word_view.specs.Views.{knows}
+use Rattle.applicable_actions.specs.distinct.Enough.{AreEnough}
+use Rattle.word_table.specs.view.Steps.{with_count, with_lower, with_upper}
+use Rattle.word_table.specs.view.Views.{knows}
 use Rattle.word_table.specs.Seen.{Board, Knowledge, knowledge, IsOf}
 use Rattle.brtdp_trial.specs.declared.step.TheConstants.{AT_GOAL}
 use Rattle.brtdp_trial.specs.Meaning.{Last}

@@ -6,7 +6,7 @@ ghost use Rattle.bellman_backup.specs.Odds.{Odds, share_of, odds_of, IsWithin, H
 
 use crate::share::Share;
 use crate::span::Span;
-use distinct_actions::DistinctActions;
+use applicable_actions::DistinctActions;
 use ground_model::{Choice, GroundAction};
 use std::alloc::{AllocError, Global};
 use std::marker::Model;

@@ -1,7 +1,7 @@
 //! The backup of an id.
 
 ghost use Rattle.std.specs.Prelude.{◌≡◌, ◌<◌, All};
-ghost use Rattle.word_view.specs.Views.{knows};
+ghost use Rattle.word_table.specs.view.Views.{knows};
 ghost use Rattle.word_table.specs.Seen.{IsOf};
 ghost use Rattle.brtdp_trial.specs.Meaning.{IsAnswerOf, AreChoices, LeadsToKnown};
 ghost use Rattle.bellman_backup.specs.Scratches.{IsScratchOf};
@@ -10,8 +10,8 @@ ghost use Rattle.bellman_backup.specs.Backups.{Keeps, HasBackedUp, Narrows};
 use crate::recalling::weigh_kept;
 use crate::scratch::Scratch;
 use crate::settling::settle;
+use applicable_actions::enough_laws;
 use brtdp_trial::Backed;
-use distinct_actions::enough_laws;
 use word_table::{Pass, Words};
 
 /// Backs up an id: reads the intervals of all states that may follow its state, narrows its own by the

@@ -2,7 +2,7 @@
 
 ghost use Rattle.std.specs.Prelude.{◌≡◌, ◌<◌, length};
 ghost use Rattle.word_table.specs.Seen.{IsOf};
-ghost use Rattle.distinct_actions.specs.Enough.{AreEnough};
+ghost use Rattle.applicable_actions.specs.distinct.Enough.{AreEnough};
 ghost use Rattle.bellman_backup.specs.Backups.{Keeps};
 ghost use Rattle.bellman_backup.specs.Choosing.{HasChosen, IsOpenState};
 

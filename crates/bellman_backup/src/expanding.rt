@@ -4,8 +4,8 @@ ghost use Rattle.std.specs.Prelude.{◌≡◌, ◌<◌, ℕ, IsTrue, IsSome, IfS
 ghost use Rattle.ground_model.specs.Choices.{cost_of, next_state};
 ghost use Rattle.ground_model.specs.Invariant.{IsChoice};
 ghost use Rattle.ground_model.specs.Packed.{has_bit};
-ghost use Rattle.distinct_actions.specs.Enough.{AreEnough};
-ghost use Rattle.word_view.specs.Views.{IsReached};
+ghost use Rattle.applicable_actions.specs.distinct.Enough.{AreEnough};
+ghost use Rattle.word_table.specs.view.Views.{IsReached};
 ghost use Rattle.word_table.specs.Seen.{IsOf};
 ghost use Rattle.state_interner.specs.Interned.{IsIdOf};
 ghost use Rattle.kept_transitions.specs.Rows.{IsKept};
@@ -19,7 +19,7 @@ ghost use Rattle.bellman_backup.specs.Totals.{IsUsableAt};
 ghost use Rattle.bellman_backup.specs.declared.lookup.Lookup.TheVariants as The;
 
 use crate::lookup::Lookup;
-use distinct_actions::DistinctActions;
+use applicable_actions::DistinctActions;
 use ground_model::State;
 use ground_step::PreparedChoice;
 use kept_transitions::{Kept, KeptAction, KeptRow, idle_law, is_idle};

@@ -1,8 +1,8 @@
 //! Ids whose transitions are learnt.
 
 ghost use Rattle.std.specs.Prelude.{◌≡◌, ◌<◌, Some};
-ghost use Rattle.word_view.specs.Views.{knows};
-ghost use Rattle.word_view.specs.Laws.{HasMore};
+ghost use Rattle.word_table.specs.view.Views.{knows};
+ghost use Rattle.word_table.specs.view.Laws.{HasMore};
 ghost use Rattle.word_table.specs.Seen.{Knowledge, IsOf};
 ghost use Rattle.kept_transitions.specs.Rows.{IsKept};
 ghost use Rattle.kept_transitions.specs.Meaning.{HasGrown};
@@ -16,7 +16,7 @@ use crate::lookup::Lookup;
 use crate::places::place_of;
 use crate::scratch::Scratch;
 use crate::states::read_state;
-use distinct_actions::{DistinctActions, DistinctCodes};
+use applicable_actions::{DistinctActions, DistinctCodes};
 use ground_model::State;
 use ground_step::is_goal;
 use kept_transitions::{Kept, KeptRow};

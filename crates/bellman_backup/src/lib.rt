@@ -1,5 +1,6 @@
-//! One backup of a state of the shared table: the bounds of the states that may follow are read, and the
-//! state's own bounds are narrowed by the Bellman equation.
+//! One backup of a state of the shared table: the bounds of the states that may follow are read,
+//! and the state's own bounds are narrowed by the Bellman equation. Besides, the means of the
+//! bounds over the starts.
 #![tactic(auto)]
 
 mod action_weights;
@@ -12,6 +13,7 @@ mod learning;
 mod least;
 mod lookup;
 mod mean;
+mod means;
 mod near;
 mod outcomes;
 mod places;
@@ -28,8 +30,9 @@ mod unasked;
 mod weighing;
 
 pub use backing::backup;
-pub use brtdp_trial::{Backed, Step};
+pub use brtdp_trial::Backed;
 pub use laws::kept_laws;
+pub use means::{Means, read_means};
 pub use near::keep_near;
 pub use racing::Racing;
 pub use scratch::Scratch;

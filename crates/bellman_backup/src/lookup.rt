@@ -1,7 +1,7 @@
 //! How the id of a state is looked up.
 
 ghost use Rattle.std.specs.Prelude.{◌≡◌, ◌<◌, length, IfSome};
-ghost use Rattle.word_view.specs.Views.{IsReached};
+ghost use Rattle.word_table.specs.view.Views.{IsReached};
 ghost use Rattle.word_table.specs.Seen.{IsOf};
 ghost use Rattle.state_interner.specs.Interned.{IsIdOf};
 ghost use Rattle.bellman_backup.specs.Backups.{Keeps};

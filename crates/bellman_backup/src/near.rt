@@ -1,7 +1,7 @@
 //! The transitions of the states near the starts.
 
 ghost use Rattle.std.specs.Prelude.{◌≡◌, ◌<◌, ℕ, IfOk};
-ghost use Rattle.word_view.specs.Views.{knows};
+ghost use Rattle.word_table.specs.view.Views.{knows};
 ghost use Rattle.word_table.specs.Seen.{IsOf};
 ghost use Rattle.bellman_backup.specs.Scratches.{AreBuffers};
 ghost use Rattle.bellman_backup.specs.Backups.{Keeps};
@@ -10,7 +10,7 @@ ghost use Rattle.bellman_backup.specs.Kept.{KeepsStates};
 use crate::learning::find_row;
 use crate::lookup::Lookup;
 use crate::scratch::blank_state;
-use distinct_actions::{DistinctActions, DistinctCodes};
+use applicable_actions::{DistinctActions, DistinctCodes};
 use ground_model::State;
 use kept_transitions::{Kept, Room};
 use state_interner::Hints;

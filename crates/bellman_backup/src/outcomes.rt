@@ -2,7 +2,7 @@
 
 ghost use Rattle.std.specs.Prelude.{◌≡◌, ◌<◌, length};
 ghost use Rattle.ground_model.specs.Packed.{State};
-ghost use Rattle.word_view.specs.Views.{knows, IsReached};
+ghost use Rattle.word_table.specs.view.Views.{knows, IsReached};
 ghost use Rattle.word_table.specs.Seen.{IsOf};
 ghost use Rattle.state_interner.specs.Interned.{IsIdOf};
 ghost use Rattle.bellman_backup.specs.Backups.{Keeps};
@@ -13,7 +13,7 @@ use crate::steps::Steps;
 use crate::sums::Sums;
 use bound_words::interval;
 use brtdp_trial::Step;
-use ground_model::{Choice, GroundAction, State};
+use ground_model::{GroundAction, State};
 use ground_step::apply;
 use state_interner::{Hints, Interned, intern_near};
 use word_table::{Pass, Words};

@@ -44,7 +44,7 @@ impl<'a, 'w, 'p> Racing<'a, 'w, 'p> {
 impl<'a, 'w, 'p> Bounds for Racing<'a, 'w, 'p> {
     ghost use Rattle.std.specs.Prelude.{◌≡◌, map, [], false};
     ghost use Rattle.ground_model.specs.declared.start.Start.{Start};
-    ghost use Rattle.word_view.specs.Views.{knows};
+    ghost use Rattle.word_table.specs.view.Views.{knows};
     ghost use Rattle.brtdp_trial.specs.Listed.{no_action};
     ghost use Rattle.bellman_backup.specs.Races.{Races, races_on, races_again, weights_still};
 

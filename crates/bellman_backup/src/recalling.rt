@@ -4,10 +4,10 @@ ghost use Rattle.std.specs.Prelude.{◌≡◌, ◌<◌, ◌≤◌, ◌+◌, Some
 ghost use Rattle.ground_model.specs.declared.limits.TheConstants.{MOST_PENALTY};
 ghost use Rattle.ground_model.specs.Packed.{State};
 ghost use Rattle.ground_model.specs.Invariant.{IsAction, IsGroundProblem};
-ghost use Rattle.word_view.specs.Views.{knows};
-ghost use Rattle.word_view.specs.Laws.{HasMore};
+ghost use Rattle.word_table.specs.view.Views.{knows};
+ghost use Rattle.word_table.specs.view.Laws.{HasMore};
 ghost use Rattle.word_table.specs.Seen.{IsOf};
-ghost use Rattle.word_rule.specs.Told.{HasOneEach, HasOneState};
+ghost use Rattle.word_table.specs.rule.Told.{HasOneState};
 ghost use Rattle.bellman_backup.specs.Scratches.{IsScratchOf};
 ghost use Rattle.bellman_backup.specs.Odds.{share_of, odds_of};
 ghost use Rattle.bellman_backup.specs.Backups.{Keeps};

@@ -10,8 +10,8 @@ ghost use Rattle.bellman_backup.specs.Scratches.{new_scratch, with_witness};
 
 use crate::action_weights::ActionWeights;
 use crate::steps::Steps;
+use applicable_actions::{DistinctActions, DistinctCodes};
 use brtdp_trial::{Backed, GIVE_UP, Step};
-use distinct_actions::{DistinctActions, DistinctCodes};
 use ground_model::{GroundProblem, List, State};
 use kept_transitions::Kept;
 use state_interner::Hints;

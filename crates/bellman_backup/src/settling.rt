@@ -1,12 +1,12 @@
 //! Numbers of an id that are narrowed by what was read.
 
 ghost use Rattle.word_table.specs.Seen.{IsOf};
-ghost use Rattle.word_rule.specs.Told.{HasOneEach};
+ghost use Rattle.word_table.specs.rule.Told.{HasOneEach};
 ghost use Rattle.bellman_backup.specs.Weighing.{CanSettle, IsNarrowed};
 
 use crate::best::Best;
+use applicable_actions::enough_laws;
 use bound_words::{raise, sink_upper};
-use distinct_actions::enough_laws;
 use word_table::{Pass, Words, load_count};
 
 /// Narrows the numbers of an id to the least that was read of its open actions, or of giving up.

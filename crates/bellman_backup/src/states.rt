@@ -4,8 +4,8 @@ ghost use Rattle.std.specs.Prelude.{◌≡◌, length};
 ghost use Rattle.bound_core.specs.Core.{width};
 ghost use Rattle.bound_core.specs.Numbers.{first_word};
 ghost use Rattle.fixed_round.specs.Words.{value_of};
-ghost use Rattle.word_view.specs.Views.{knows};
-ghost use Rattle.word_rule.specs.Rule.{IsTable};
+ghost use Rattle.word_table.specs.view.Views.{knows};
+ghost use Rattle.word_table.specs.rule.Rule.{IsTable};
 ghost use Rattle.word_table.specs.Seen.{IsOf};
 ghost use Rattle.bellman_backup.specs.Backups.{Keeps, IsStateOf};
 

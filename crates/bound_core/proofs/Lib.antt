@@ -6,3 +6,4 @@ pub mod Keeping
 pub mod Narrowing
 pub mod Worth
 pub mod Rows
+pub mod lemmas

@@ -5,3 +5,4 @@ pub mod Sound
 pub mod Shown
 pub mod Laws
 pub mod Coin
+pub mod ends

@@ -1,9 +1,10 @@
-//! The bounds that workers share while they search, as plain data: core states, the events that change
-//! them, and what stays true whatever the order of events.
+//! The bounds that workers share while they search, as plain data: core states, the events that
+//! change them, what stays true whatever their order, and what is known when a search has ended.
 #![tactic(auto)]
 
 mod codes;
 mod core_state;
+mod ends;
 mod event;
 mod id_row;
 mod image;
@@ -12,6 +13,7 @@ mod worker;
 
 pub use codes::{AT_GOAL, GIVE_UP, MOST_IDS};
 pub use core_state::CoreState;
+pub use ends::{Ends, ends_of};
 pub use event::Event;
 pub use id_row::IdRow;
 pub use image::{Image, ImageRow};

@@ -5,23 +5,16 @@ use Rattle.fixed_round.specs.Words.{word_of, value_of, code_of}
 use Rattle.decision_process.specs.Least.{CoversFromAbove}
 use Rattle.ground_model.specs.Ground.{Ground}
 use Rattle.ground_model.specs.Steps.{ground_process}
-use Rattle.bound_core.specs.Numbers.{quit_word}
-use Rattle.word_view.specs.declared.view.View.{View}
-use Rattle.word_view.specs.Views.{number, noted_lower, noted_upper}
-use Rattle.word_view.specs.Steps.{with_lower, with_upper, with_lower_load}
-use Rattle.word_view.proofs.Lists.{is_first}
-use Rattle.word_rule.specs.Told.{TellsLower, TellsUpper, IsWorth}
+use Rattle.word_table.specs.declared.view.View.{View}
+use Rattle.word_table.specs.view.Views.{number, noted_lower, noted_upper}
+use Rattle.word_table.specs.view.Steps.{with_lower_load}
+use Rattle.word_table.proofs.lemmas.view.Lists.{is_first}
+use Rattle.word_table.specs.rule.Told.{TellsLower, TellsUpper, IsWorth}
 use Rattle.bound_words.specs.Intervals.{TellsInterval}
-use Rattle.word_view.proofs.Seen.{greatest_over, least_under}
-
-pub raised_is_noted : (v : View) (id n : ℕ) → n ≤ noted_lower (with_lower v id n) id
-raised_is_noted v id n = greatest_over (λ i. nat_eq i id) (number id n ∷ v.lower) (number id n) (is_first (number id n) v.lower) (eq-eqb id id refl)
+use Rattle.word_table.proofs.lemmas.view.Seen.{greatest_over}
 
 pub loaded_is_noted : (v : View) (id n : ℕ) → n ≤ noted_lower (with_lower_load v id n) id
 loaded_is_noted v id n = greatest_over (λ i. nat_eq i id) (number id n ∷ v.lower) (number id n) (is_first (number id n) v.lower) (eq-eqb id id refl)
-
-pub sunk_is_noted : (v : View) (id x : ℕ) → noted_upper (with_upper v id x) id ≤ x
-sunk_is_noted v id x = least_under (λ i. nat_eq i id) (quit_word v.problem.penalty) (number id x ∷ v.upper) (number id x) (is_first (number id x) v.upper) (eq-eqb id id refl)
 
 -- both loads of a reading
 pub interval_is_told : (g : Ground) (v : View) (id n word value code : ℕ) → TellsLower g v id n → TellsUpper g (with_lower_load v id n) id word

@@ -9,10 +9,10 @@ use Rattle.decision_process.specs.Least.{Covers}
 use Rattle.ground_model.specs.Packed.{State}
 use Rattle.ground_model.specs.Ground.{Ground}
 use Rattle.ground_model.specs.Steps.{ground_process}
-use Rattle.word_view.specs.declared.view.View.{View}
-use Rattle.word_view.specs.Views.{has_state, noted_lower, noted_upper}
-use Rattle.word_view.specs.Steps.{with_lower_load, with_upper_load}
-use Rattle.word_rule.specs.Told.{IsWorth}
+use Rattle.word_table.specs.declared.view.View.{View}
+use Rattle.word_table.specs.view.Views.{has_state, noted_lower, noted_upper}
+use Rattle.word_table.specs.view.Steps.{with_lower_load, with_upper_load}
+use Rattle.word_table.specs.rule.Told.{IsWorth}
 use Rattle.bound_words.specs.declared.bounds.Interval.{Interval}
 
 abbrev pub word_in : Interval → ℕ

@@ -1,8 +1,8 @@
 //! Numbers that become narrower.
 
 ghost use Rattle.std.specs.Prelude.{◌≡◌, ◌≤◌};
-ghost use Rattle.word_view.specs.Views.{CanRaise, CanSink, noted_lower, noted_upper};
-ghost use Rattle.word_view.specs.Steps.{with_lower, with_upper};
+ghost use Rattle.word_table.specs.view.Views.{CanRaise, CanSink, noted_lower, noted_upper};
+ghost use Rattle.word_table.specs.view.Steps.{with_lower, with_upper};
 ghost use Rattle.word_table.specs.Seen.{knowledge, IsOf};
 
 use fixed_round::UpperWord;

@@ -1,7 +1,7 @@
 //! Intervals as they are read.
 
 ghost use Rattle.std.specs.Prelude.{◌≡◌};
-ghost use Rattle.word_view.specs.Views.{knows};
+ghost use Rattle.word_table.specs.view.Views.{knows};
 ghost use Rattle.word_table.specs.Seen.{knowledge, IsOf};
 ghost use Rattle.bound_words.specs.Intervals.{with_interval, TellsInterval};
 

@@ -7,4 +7,3 @@ pub mod Trials
 pub mod Examples
 pub mod Listed
 pub mod Following
-pub mod TwoStates

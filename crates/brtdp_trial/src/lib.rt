@@ -32,6 +32,3 @@ pub use start_draw::{StartDraw, StartDrawn};
 pub use step::{AT_GOAL, Backed, GIVE_UP, Step};
 pub use trials::trial;
 pub use turn::{Drawn, Turn};
-
-#[cfg(test)]
-mod tests;

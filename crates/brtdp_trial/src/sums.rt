@@ -2,7 +2,7 @@
 
 ghost use Rattle.std.specs.Prelude.{◌≡◌, ◌<◌, ◌≤◌, ◌^◌, Some, List, length, sum, All};
 ghost use Rattle.std.specs.List.{slice_get};
-ghost use Rattle.brtdp_trial.specs.Meaning.{Last, IsInterval, spreads, weights_of};
+ghost use Rattle.brtdp_trial.specs.Meaning.{IsInterval, spreads, weights_of};
 ghost use Rattle.brtdp_trial.specs.Draws.{IsFirstAbove};
 ghost use Rattle.brtdp_trial.specs.declared.step.Step.{Step};
 

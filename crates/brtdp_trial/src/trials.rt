@@ -1,6 +1,6 @@
 //! One trial.
 
-ghost use Rattle.std.specs.Prelude.{◌≡◌, ◌<◌, ◌≤◌, ◌^◌, ℕ, true, Some, [], length, reverse, sum, All};
+ghost use Rattle.std.specs.Prelude.{◌≡◌, ◌<◌, ◌≤◌, ◌^◌, true, Some, [], length, reverse, sum, All};
 ghost use Rattle.brtdp_trial.specs.Meaning.{IsInterval, HasId, LeadsToKnown, weights_of};
 ghost use Rattle.brtdp_trial.specs.Draws.{draw_of, draws_of};
 ghost use Rattle.brtdp_trial.specs.Runs.{next_run};

@@ -23,11 +23,6 @@ pub line_given : (k : ℕ) (bytes : List ℕ) (found : Option (Bor (List ℕ) ×
 line_given k bytes None e = rw (parts_whole 10 bytes (sym e)) refl
 line_given k bytes (Some p) e = rw (parts_cut 10 bytes p.0.now p.1.now (sym e)) (line_found k p.0.now p.1.now)
 
--- what a line says in its form
-pub in_form : {A : Type 0} (k : ℕ) (o read : Option A) (x : A) → Ok x ≡ ok_or o (Syntax k) → o ≡ read → or_syntax k read ≡ Ok x
-in_form k None read x e is = absurd cc
-in_form k (Some y) read x e is = ap (or_syntax k) (sym is) ∙ sym e
-
 -- a value that `ok_or` passed on
 pub passed : {X Y : Type 0} (view : X → Y) (o : Option X) (refusal : CertRefusal) (x : X) (read : Option Y) → Ok x ≡ ok_or o refusal → option_map view o ≡ read → Some (view x) ≡ read
 passed view None refusal x read e is = absurd cc

@@ -1,8 +1,8 @@
 -- Names that a loop puts in a table, and numbers that it makes of them.
-use Rattle.std.proofs.Common.{◌≡◌, inl, inr, ℕ, ◌+◌, ◌<◌, ◌≤◌, zero, suc, List, [], ◌∷◌, ◌++◌, length, get_or, take, drop, map, refl, ap, sym, subst, ◌∙◌, arith}
+use Rattle.std.proofs.Common.{◌≡◌, inl, inr, ℕ, ◌+◌, ◌<◌, zero, suc, List, [], ◌∷◌, ◌++◌, length, get_or, take, drop, map, refl, ap, sym, subst, ◌∙◌, arith}
 use Rattle.std.specs.List.{flat_map, AllByRecursion}
 use Rattle.std.specs.BTreeSet.{insert_key}
-use Rattle.std.proofs.lemmas.List.{at_drop_more, at_drop_all, take_more}
+use Rattle.std.proofs.lemmas.List.{at_drop_more, take_more}
 use Rattle.plain_list.specs.Texts.{compare_texts}
 use Rattle.certificate.specs.declared.named.NamedRow.{NamedRow}
 use Rattle.certificate.specs.Numbering.{Among, filled}
@@ -11,21 +11,12 @@ filled-append : (table xs ys : List (List ℕ)) → filled table (xs ++ ys) ≡ 
 filled-append table [] ys = refl
 filled-append table (x ∷ xs) ys = filled-append (insert_key compare_texts table x) xs ys
 
-pub filled_more : (table texts : List (List ℕ)) (i : ℕ) (text : List ℕ) → i < length texts → text ≡ get_or texts i text → filled table (drop i texts) ≡ filled (insert_key compare_texts table text) (drop (i + 1) texts)
-filled_more table texts i text lt is = at_drop_more (filled table) texts i text lt ∙ ap (λ (t : List ℕ). filled (insert_key compare_texts table t) (drop (i + 1) texts)) (sym is)
-
-pub filled_end : (table texts : List (List ℕ)) (i : ℕ) → length texts ≤ i → filled table (drop i texts) ≡ table
-filled_end table texts i le = at_drop_all (filled table) texts i le
-
 -- the names of a row and of those behind it
 pub rows_more : (names : NamedRow → List (List ℕ)) (table : List (List ℕ)) (rows : List NamedRow) (i : ℕ) (r : NamedRow) → i < length rows → r ≡ get_or rows i r → filled table (flat_map names (drop i rows)) ≡ filled (filled table (names r)) (flat_map names (drop (i + 1) rows))
 rows_more names table rows i r lt is =
     at_drop_more (λ (rest : List NamedRow). filled table (flat_map names rest)) rows i r lt
     ∙ filled-append table (names (get_or rows i r)) (flat_map names (drop (i + 1) rows))
     ∙ ap (λ (s : NamedRow). filled (filled table (names s)) (flat_map names (drop (i + 1) rows))) (sym is)
-
-pub rows_end : (names : NamedRow → List (List ℕ)) (table : List (List ℕ)) (rows : List NamedRow) (i : ℕ) → length rows ≤ i → filled table (flat_map names (drop i rows)) ≡ table
-rows_end names table rows i le = at_drop_all (λ (rest : List NamedRow). filled table (flat_map names rest)) rows i le
 
 map-append : {A B : Type 0} (f : A → B) (xs ys : List A) → map f (xs ++ ys) ≡ map f xs ++ map f ys
 map-append f [] ys = refl

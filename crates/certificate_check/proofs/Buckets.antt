@@ -5,7 +5,7 @@ use Rattle.std.specs.Prelude.{Contains, nat_eq, slice_set, option_map}
 use Rattle.std.specs.List.{slice_get}
 use Rattle.std.proofs.lemmas.Bool.{cases_Bool, cases_lt, true≢false, and_parts, and_from, eq-eqb, eqb-true}
 use Rattle.std.proofs.lemmas.List.{get_or_push, get_or_append_left, length_push, get_or-set_same, get_or-set_other, length-set}
-use Rattle.std.proofs.lemmas.Option.{none-some, slice_get_past, slice_get-get_or, slice_get_within, get_or_from_slice_get}
+use Rattle.std.proofs.lemmas.Option.{slice_get-get_or, slice_get_within, get_or_from_slice_get}
 use Rattle.plain_list.proofs.Members.{Contains-first, Contains-later}
 use Rattle.certificate.specs.Rows.{Row}
 use Rattle.certificate.specs.Content.{Content, IsCertificate}
@@ -90,23 +90,6 @@ module _ (x : Claimed) where
     old_before : (n q : ℕ) → q < p → get_or (befores ++ n ∷ []) q 0 ≡ get_or befores q 0
     old_before n q below = get_or_append_left befores (n ∷ []) 0 q (omega (arith, below, has.long))
 
-    -- a row with an atom that the problem does not have
-    pub links_passed : knows x.problem x.certificate r ≡ false → HasLinks x (p + 1) lasts (befores ++ 0 ∷ [])
-    links_passed unknown =
-        let next : p + 1 ≡ suc p = omega arith in
-        let off : (b : ℕ) → is_in x b p ≡ false = λ b. out_of_bucket b p r at (λ known _. true≢false (sym known ∙ unknown)) in
-        subst (λ m. HasLinks x m lasts (befores ++ 0 ∷ [])) (sym next) (record {
-          few = has.few;
-          buckets = has.buckets;
-          long = length_push befores 0 ∙ omega (arith, has.long);
-          lasts_are = λ b within. has.lasts_are b within ∙ sym (last_off (is_in x b) p (off b));
-          befores_are = λ q b below on. elim (cases_lt q p) [
-            | inl under ↦ old_before 0 q under ∙ has.befores_are q b under on
-            | inr past ↦
-                absurd (true≢false (sym on ∙ ap (is_in x b) (let same : q ≡ p = omega (arith, past, below) in same) ∙ off b))
-          ];
-        })
-
     module _ (bucket : ℕ) (known : knows x.problem x.certificate r ≡ true)
         (bucket_is : bucket ≡ bucket_of x (row_state x.problem x.certificate r)) (within : bucket < buckets_of x) where
       here : is_in x bucket p ≡ true
@@ -154,14 +137,6 @@ module _ (x : Claimed) where
         → row_state x.problem x.certificate r ≢ s
 
   module _ (lasts befores : List ℕ) (has : HasLinks x (length x.certificate.rows) lasts befores) (s : State) where
-    pub search_first : (b n : ℕ) → b ≡ bucket_of x s → b < buckets_of x → n ≡ get_or lasts b 0 → IsSearch s n
-    search_first b n b_is inside n_is = record {
-      past = length x.certificate.rows;
-      within = omega arith;
-      number_is = n_is ∙ has.lasts_are b inside ∙ ap (λ k. last_before (is_in x k) (length x.certificate.rows)) b_is;
-      none_behind = λ q r past at known same. none-some r (sym (slice_get_past x.certificate.rows q past) ∙ at);
-    }
-
     module _ (number p : ℕ) (so_far : IsSearch s number) (number_is : number ≡ suc p) where
       tells : (p < so_far.past) × (is_in x (bucket_of x s) p ≡ true)
           × ((q : ℕ) → p < q → q < so_far.past → is_in x (bucket_of x s) q ≡ true → ⊥)

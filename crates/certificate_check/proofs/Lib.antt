@@ -10,3 +10,4 @@ pub mod RowVerdict
 pub mod Sound
 pub mod Stating
 pub mod Verdicts
+pub mod lemmas

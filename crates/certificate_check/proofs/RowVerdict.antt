@@ -8,12 +8,12 @@ use Rattle.certificate.specs.Content.{Content, IsCertificate}
 use Rattle.ground_model.specs.Packed.{State, words_for}
 use Rattle.ground_model.specs.Ground.{Ground}
 use Rattle.ground_model.specs.Steps.{ground_process}
-use Rattle.row_check.specs.declared.act.Act.{Act}
-use Rattle.row_check.specs.declared.fault.Fault.{Fault}
-use Rattle.row_check.specs.declared.fault.Fault.TheVariants as fault
-use Rattle.row_check.specs.declared.claim.Claim.{Claim}
-use Rattle.row_check.specs.declared.row.Scratch.{Scratch}
-use Rattle.row_check.specs.Faults.{IsFirstFault, IsReadAt, HasRoom}
+use Rattle.certificate_check.specs.declared.row_check.act.Act.{Act}
+use Rattle.certificate_check.specs.declared.row_check.fault.Fault.{Fault}
+use Rattle.certificate_check.specs.declared.row_check.fault.Fault.TheVariants as fault
+use Rattle.certificate_check.specs.declared.row_check.claim.Claim.{Claim}
+use Rattle.certificate_check.specs.declared.row_check.row.Scratch.{Scratch}
+use Rattle.certificate_check.specs.row_check.Faults.{IsFirstFault, IsReadAt, HasRoom}
 use Rattle.certificate_check.specs.declared.rows.Room.{Room}
 use Rattle.certificate_check.specs.Pass.{HasRoomFor}
 use Rattle.certificate_check.specs.declared.verdict.Verdict.{Verdict}

@@ -4,7 +4,7 @@ use Rattle.std.specs.Prelude.{Contains, IsTrue, is_some}
 use Rattle.std.specs.Cmp.Lexicographic.{bytes_decides}
 use Rattle.std.proofs.lemmas.Bool.{cases_Bool, true≢false}
 use Rattle.std.proofs.lemmas.Option.{slice_get-get_or, slice_get_within, get_or_from_slice_get}
-use Rattle.weighted.specs.Chances.{IsExact}
+use Rattle.plain_list.specs.weighted.Chances.{IsExact}
 use Rattle.plain_list.proofs.Members.{Contains-first, Contains-later, Contains-cons_cases, Contains-nil}
 use Rattle.certificate.specs.Rows.{Row}
 use Rattle.certificate.specs.Content.{Content, IsCertificate}
@@ -12,14 +12,14 @@ use Rattle.decision_process.specs.Backup.{action_value}
 use Rattle.decision_process.specs.Balanced.{IsBalancedAt}
 use Rattle.decision_process.specs.Following.{IsLowerFrom, IsUpperFrom}
 use Rattle.decision_process.specs.Readings as readings
-use Rattle.decision_process.specs.Readings.{RowAct, AtGoal, HasDistinctStates, action_of, row_at, act, IsMarked, IsBalancedIn}
+use Rattle.decision_process.specs.Readings.{AtGoal, action_of, row_at, act, IsMarked, IsBalancedIn}
 use Rattle.decision_process.proofs.Readings.{row_is_read, rows_balance}
 use Rattle.ground_model.specs.Packed.{State, same_state}
 use Rattle.ground_model.specs.Ground.{Ground}
 use Rattle.ground_model.specs.Steps.{ground_process}
-use Rattle.row_check.specs.declared.act.Act.{Act}
-use Rattle.row_check.specs.declared.act.Act.TheVariants.{GiveUp, Goal, Do}
-use Rattle.row_check.specs.Faults as faults
+use Rattle.certificate_check.specs.declared.row_check.act.Act.{Act}
+use Rattle.certificate_check.specs.declared.row_check.act.Act.TheVariants.{GiveUp, Goal, Do}
+use Rattle.certificate_check.specs.row_check.Faults as faults
 use Rattle.certificate_check.specs.Claims.{taken, knows, row_state, act_of, row_of, rows_of, low_in, high_in, IsBalancedFor}
 use Rattle.certificate_check.specs.Verdicts.{IsRightIn, UpperFollowsIn, IsSound, AreSound, IsIntervalOf}
 use Rattle.certificate_check.proofs.Distinct.{rows_known, rows_unknown, states_differ}

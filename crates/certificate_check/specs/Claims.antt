@@ -29,8 +29,8 @@ use Rattle.ground_model.specs.Ground.{Ground}
 use Rattle.ground_model.specs.Steps.{ground_process, ground_starts}
 use Rattle.ground_step.specs.Atoms.{state_of}
 use Rattle.ground_step.specs.Names.{place_of, action_names}
-use Rattle.row_check.specs.declared.act.Act.{Act}
-use Rattle.row_check.specs.declared.act.Act.TheVariants.{GiveUp, Goal, Do}
+use Rattle.certificate_check.specs.declared.row_check.act.Act.{Act}
+use Rattle.certificate_check.specs.declared.row_check.act.Act.TheVariants.{GiveUp, Goal, Do}
 
 abbrev pub numbered : List (List ℕ) → List (List ℕ) → List (Option ℕ)
 numbered names texts = map (place_of names) texts

@@ -14,7 +14,7 @@ use Rattle.decision_process.specs.Readings as readings
 use Rattle.decision_process.specs.Readings.{row_at}
 use Rattle.ground_model.specs.Packed.{State, words_for, same_state}
 use Rattle.ground_model.specs.Ground.{Ground}
-use Rattle.row_check.specs.declared.bounds.Bounds.{Bounds}
+use Rattle.certificate_check.specs.declared.row_check.bounds.Bounds.{Bounds}
 use Rattle.certificate_check.specs.Claims.{act_codes, knows, row_state, rows_of}
 
 pub record Claimed : Type 0 where

@@ -6,3 +6,4 @@ pub mod Buckets
 pub mod Packing
 pub mod Pass
 pub mod Laws
+pub mod row_check

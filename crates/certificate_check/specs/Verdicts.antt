@@ -16,11 +16,11 @@ use Rattle.decision_process.specs.Following.{IsLowerFrom}
 use Rattle.ground_model.specs.Packed.{State}
 use Rattle.ground_model.specs.Ground.{Ground}
 use Rattle.ground_model.specs.Steps.{ground_process, ground_starts}
-use Rattle.row_check.specs.declared.act.Act.{Act}
-use Rattle.row_check.specs.declared.fault.Fault.{Fault}
-use Rattle.row_check.specs.declared.fault.Fault.TheVariants as fault
-use Rattle.row_check.specs.Faults as faults
-use Rattle.row_check.specs.Faults.{IsRight}
+use Rattle.certificate_check.specs.declared.row_check.act.Act.{Act}
+use Rattle.certificate_check.specs.declared.row_check.fault.Fault.{Fault}
+use Rattle.certificate_check.specs.declared.row_check.fault.Fault.TheVariants as fault
+use Rattle.certificate_check.specs.row_check.Faults as faults
+use Rattle.certificate_check.specs.row_check.Faults.{IsRight}
 use Rattle.certificate_check.specs.declared.verdict.Verdict.{Verdict}
 use Rattle.certificate_check.specs.declared.verdict.Verdict.TheVariants as verdict
 use Rattle.certificate_check.specs.Claims.{knows, row_state, act_of, low_in, high_in}

@@ -6,13 +6,13 @@ ghost use Rattle.certificate_check.specs.Claims.{IsBalancedFor};
 ghost use Rattle.certificate_check.specs.Verdicts.{IsVerdict};
 
 use crate::ground_rows::GroundRows;
+use crate::row_check::is_interval;
 use crate::row_table::RowTable;
 use crate::rows::{Room, rows_verdict};
 use crate::verdict::Verdict;
+use applicable_actions::OpenActions;
 use certificate::Certificate;
 use ground_model::GroundProblem;
-use open_actions::OpenActions;
-use row_check::is_interval;
 use std::alloc::{AllocError, Global};
 
 /// Whether a certificate is balanced for a ground problem, or the first condition that fails: the penalty,

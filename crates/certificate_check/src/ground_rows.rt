@@ -5,9 +5,9 @@ ghost use Rattle.certificate_check.specs.Claims.{doing};
 
 use crate::numbers::{action_codes, atom_numbers};
 use crate::packing::{PackedRows, pack_rows, piece, state_width};
+use crate::row_check::Act;
 use certificate::Certificate;
 use ground_model::GroundProblem;
-use row_check::Act;
 use std::alloc::{AllocError, Global};
 use std::marker::Model;
 

@@ -1,7 +1,9 @@
-//! Whether certificates of ground problems are balanced.
+//! The checker of certificates: whether the rows of a certificate bound the values of a ground
+//! problem.
 //!
-//! A certificate's tables are turned into numbers of the problem once, and its rows into packed states in
-//! one arena, with a hash table from states to rows. Then one pass tests each row, and takes no memory.
+//! A certificate's tables are turned into numbers of the problem once, and its rows into packed
+//! states in one arena, with a hash table from states to rows. Then one pass tests each row, and
+//! takes no memory.
 #![tactic(auto)]
 
 mod checker;
@@ -10,6 +12,7 @@ mod laws;
 mod numbers;
 mod packing;
 mod readings;
+mod row_check;
 mod row_table;
 mod rows;
 mod verdict;

@@ -1,9 +1,9 @@
 //! The values of states, as a certificate gives them.
 
+use crate::row_check::{Bounds, Reading};
 use crate::row_table::RowTable;
 use ground_model::State;
 use ground_step::is_goal;
-use row_check::{Bounds, Reading};
 
 /// The values of a state's row. Without a row the lower value is 0 and the upper one the penalty; at a goal
 /// the upper value is 0.

@@ -1,15 +1,14 @@
 //! The rows of a certificate by their states.
 
-ghost use Rattle.std.specs.Prelude.{◌≡◌, ◌+◌, ◌*◌, ◌/◌, ◌^◌, ◌<◌, length, OnOk};
+ghost use Rattle.std.specs.Prelude.{◌≡◌, ◌+◌, ◌*◌, ◌^◌, ◌<◌, length, OnOk};
 ghost use Rattle.ground_model.specs.Packed.{words_for};
-ghost use Rattle.ground_step.specs.Hash.{hash_of};
 ghost use Rattle.certificate_check.specs.Buckets.{scaled, HasLinks};
 
 use crate::ground_rows::GroundRows;
 use crate::packing::{blank, copy_words, state_width};
+use crate::row_check::Bounds;
 use ground_model::State;
 use ground_step::hash;
-use row_check::Bounds;
 use std::alloc::{AllocError, Global};
 use std::marker::Model;
 

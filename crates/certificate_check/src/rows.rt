@@ -5,11 +5,11 @@ ghost use Rattle.certificate_check.specs.Pass.{HasRoomFor, TellsOfRow, TellsOfRo
 ghost use Rattle.certificate_check.specs.Verdicts.{verdict_of};
 
 use crate::packing::{blank, copy_words, state_width};
+use crate::row_check::{Claim, Fault, Scratch, row_fault};
 use crate::row_table::RowTable;
 use crate::verdict::Verdict;
+use applicable_actions::{OpenActions, OpenCodes};
 use ground_model::{GroundProblem, State};
-use open_actions::{OpenActions, OpenCodes};
-use row_check::{Claim, Fault, Scratch, row_fault};
 use std::alloc::{AllocError, Global};
 
 /// Room for the pass: the state of a row, and what its test needs.

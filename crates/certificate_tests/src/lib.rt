@@ -1,5 +1,9 @@
-//! Tests of reading, writing and checking certificates, as tables. There is nothing else here.
+//! Tests of reading, writing and checking certificates, as tables. Nothing stands on them.
 #![tactic(auto)]
 
 #[cfg(test)]
-mod tests;
+mod certificate_text;
+#[cfg(test)]
+mod refusal;
+#[cfg(test)]
+mod verdict;

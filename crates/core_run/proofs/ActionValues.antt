@@ -3,8 +3,8 @@ use Rattle.std.proofs.Common.{◌≡◌, ℕ, ◌+◌, ◌*◌, ◌^◌, ◌<◌
 use Rattle.std.specs.Prelude.{All, get_or}
 use Rattle.std.proofs.lemmas.List.{take_more}
 use Rattle.std.proofs.Math.Nat.{mul-le-mul_left, mul-le-mul_right}
-use Rattle.weighted.specs.Mean.{total}
-use Rattle.weighted.proofs.Totals.{total-append}
+use Rattle.plain_list.specs.weighted.Mean.{total}
+use Rattle.plain_list.proofs.lemmas.weighted.Totals.{total-append}
 use Rattle.ground_model.specs.declared.action.Choice.{Choice}
 use Rattle.ground_model.specs.declared.action.GroundAction.{GroundAction}
 use Rattle.ground_model.specs.declared.limits.TheConstants.{MOST_CHOICE_COST}

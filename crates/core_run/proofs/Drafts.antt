@@ -124,9 +124,6 @@ module _ (g : Ground) (ids : List IdRow) (ws : List Worker) (k : ℕ) (w : Worke
     its_state : written g (sight_in ids g w) ≡ state_in row
     its_state = written_is_state g ids w id row row_there holds whole
 
-    now_state : published_state (Some now) ≡ Some (state_in row)
-    now_state = refl
-
     state_now : (j : ℕ) → published_state (slice_get ids_now j) ≡ cond (nat_eq j id) (Some (state_in row)) (published_state (slice_get ids j))
     state_now = set_places (λ j o o'. published_state o' ≡ cond (nat_eq j id) (Some (state_in row)) (published_state o)) ids id row now row_there
         (sym (ap (λ b. cond b (Some (state_in row)) (published_state (Some row))) (eq-eqb id id refl)))

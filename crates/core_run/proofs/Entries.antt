@@ -112,10 +112,6 @@ or_twice false true false = refl
 or_twice false false true = refl
 or_twice false false false = refl
 
-or_self : (a : Bool) → (a || a) ≡ a
-or_self true = refl
-or_self false = refl
-
 knows-append : (xs ys : List Seen) (id : ℕ) → knows_in (xs ++ ys) id ≡ (knows_in xs id || knows_in ys id)
 knows-append xs ys id = list_any-append (λ (x : Seen). nat_eq x.id id) xs ys
 

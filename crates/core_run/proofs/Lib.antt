@@ -13,4 +13,3 @@ pub mod Choosing
 pub mod Allowance
 pub mod Starts
 pub mod Prefixes
-pub mod Tire

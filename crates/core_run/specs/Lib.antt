@@ -4,4 +4,3 @@ pub mod Boards
 pub mod Decided
 pub mod Stepped
 pub mod Began
-pub mod Tire

@@ -1,13 +1,9 @@
 //! Whether numbers may be raised and sunk, and whether an event may come.
 
 ghost use Rattle.std.specs.Prelude.{◌≡◌, ◌≤◌, Some, length, map};
-ghost use Rattle.std.specs.List.{slice_get};
 ghost use Rattle.ground_model.specs.Packed.{State};
 ghost use Rattle.ground_model.specs.Invariant.{IsAction, IsGroundProblem};
-ghost use Rattle.bound_core.specs.Core.{width};
 ghost use Rattle.bound_core.specs.Shown.{state_in, seen_lower_in};
-ghost use Rattle.core_run.specs.Boards.{numbers, AreBounded, IsFormed};
-ghost use Rattle.fixed_round.specs.Words.{value_of, code_of};
 ghost use Rattle.core_run.specs.Decided.{stays_below, can_raise, covers_action, can_sink};
 ghost use Rattle.core_run.specs.Decided.{upper_values};
 

@@ -1,6 +1,6 @@
 //! New rows for ids that workers claim.
 
-ghost use Rattle.std.specs.Prelude.{◌≡◌, ◌<◌, Some, None, IfOk, OnOk, length, replicate};
+ghost use Rattle.std.specs.Prelude.{◌≡◌, ◌<◌, Some, None, IfOk, OnOk, replicate};
 ghost use Rattle.bound_core.specs.Core.{width};
 ghost use Rattle.bound_core.specs.declared.event.Event.TheVariants as The;
 ghost use Rattle.core_run.specs.Stepped.{empty_row, MayStep, IsStep};

@@ -1,12 +1,10 @@
 //! Whether an event may come.
 
 ghost use Rattle.std.specs.Prelude.{◌≡◌, length};
-ghost use Rattle.std.specs.List.{slice_get};
 ghost use Rattle.bound_core.specs.Core.{width};
 ghost use Rattle.core_run.specs.Boards.{AreBounded, IsFormed};
 ghost use Rattle.core_run.specs.Decided.{knower_in, live_in, raises, sinks, publishes, allows};
 ghost use Rattle.core_run.specs.Decided.{claims, writes, is_without_spare};
-ghost use Rattle.ground_model.specs.Invariant.{IsGroundProblem};
 
 use crate::allowing::{can_raise, can_sink};
 use crate::board::Board;

@@ -17,6 +17,3 @@ mod stepping;
 pub use bound_core::{AT_GOAL, CoreState, Event, GIVE_UP, IdRow, List, MOST_IDS, Seen, Worker};
 pub use refusal::CoreRefusal;
 pub use running::run_events;
-
-#[cfg(test)]
-mod tests;

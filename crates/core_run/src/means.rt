@@ -1,6 +1,6 @@
 //! The expected cost of an action by the numbers that a worker has seen.
 
-ghost use Rattle.std.specs.Prelude.{◌≡◌, ◌≤◌, All, length, map};
+ghost use Rattle.std.specs.Prelude.{◌≡◌, ◌≤◌, length, map};
 ghost use Rattle.ground_model.specs.Packed.{State};
 ghost use Rattle.ground_model.specs.Invariant.{IsAction};
 ghost use Rattle.ground_model.specs.Steps.{own_action_value};

@@ -1,6 +1,6 @@
 //! Whether a spare id may be published.
 
-ghost use Rattle.std.specs.Prelude.{◌≡◌, Some, length, map};
+ghost use Rattle.std.specs.Prelude.{◌≡◌, Some, length};
 ghost use Rattle.std.specs.List.{slice_get};
 ghost use Rattle.ground_model.specs.Packed.{is_inside};
 ghost use Rattle.ground_model.specs.Invariant.{IsAction};

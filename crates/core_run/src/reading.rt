@@ -1,7 +1,6 @@
 //! What a worker knows, and the numbers that it has seen.
 
-ghost use Rattle.std.specs.Prelude.{◌≡◌, ◌≤◌, map, max, min};
-ghost use Rattle.ground_model.specs.Invariant.{IsGroundProblem};
+ghost use Rattle.std.specs.Prelude.{◌≡◌, map, max, min};
 ghost use Rattle.bound_core.specs.Numbers.{first_word};
 ghost use Rattle.bound_core.specs.Shown.{state_in, seen_lower_in, seen_upper_in};
 ghost use Rattle.core_run.specs.Merged.{knows_in};

@@ -9,6 +9,3 @@ mod upper_word;
 pub use laws::word_laws;
 pub use mean::{down, up};
 pub use upper_word::UpperWord;
-
-#[cfg(test)]
-mod tests;

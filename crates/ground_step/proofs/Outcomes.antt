@@ -3,7 +3,7 @@ use Rattle.std.proofs.Common.{◌≡◌, ℕ, ◌+◌, ◌/◌, ◌≤◌, Bool,
 use Rattle.std.specs.List.{slice_get}
 use Rattle.std.proofs.lemmas.Option.{slice_get-map}
 use Rattle.std.proofs.lemmas.List.Elements.{All-contains}
-use Rattle.weighted.specs.Mean.{total}
+use Rattle.plain_list.specs.weighted.Mean.{total}
 use Rattle.decision_process.specs.Process.{Outcome}
 use Rattle.ground_model.specs.declared.action.Choice.{Choice}
 use Rattle.ground_model.specs.declared.action.GroundAction.{GroundAction}

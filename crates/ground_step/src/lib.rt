@@ -25,6 +25,3 @@ pub use laws::step_laws;
 pub use prepared_choice::PreparedChoice;
 pub use steps::{applicable, apply, is_goal, successor};
 pub use true_bits::{TrueAtoms, true_atoms};
-
-#[cfg(test)]
-mod tests;

@@ -1,6 +1,6 @@
 //! The steps of a ground problem.
 
-ghost use Rattle.std.specs.Prelude.{◌≡◌, ◌<◌, ◌≤◌, Some, length, option_map, take};
+ghost use Rattle.std.specs.Prelude.{◌≡◌, ◌<◌, ◌≤◌, Some, length, take};
 ghost use Rattle.ground_model.specs.Packed.{has_bit};
 ghost use Rattle.ground_model.specs.Choices.{cost_of, next_state};
 ghost use Rattle.ground_model.specs.Steps.{is_open, ground_process};

@@ -1,5 +1,22 @@
-//! Tests of the ground problems of planning texts, and of what they are refused for. There is nothing else here.
+//! Tests of the group ground: ground problems of planning texts, their steps, and what is kept of
+//! these. Nothing stands on them.
 #![tactic(auto)]
 
 #[cfg(test)]
-mod tests;
+mod choices;
+#[cfg(test)]
+mod grounded;
+#[cfg(test)]
+mod kept;
+#[cfg(test)]
+mod limits;
+#[cfg(test)]
+mod refusals;
+#[cfg(test)]
+mod shown;
+#[cfg(test)]
+mod states;
+#[cfg(test)]
+mod steps;
+#[cfg(test)]
+mod texts;

@@ -13,13 +13,13 @@ use Rattle.ppddl_model.specs.Steps.{Terms, charges_of, base_cost, world}
 use Rattle.type_table.specs.Numbered.{with_name}
 use Rattle.type_table.proofs.Lists.{map_length}
 use Rattle.type_table.proofs.Once.{once-push, names-with_object}
-use Rattle.grounding.specs.declared.limits.TheConstants.{MOST_OBJECTS}
-use Rattle.grounding.specs.declared.limits.LimitCode.{LimitCode}
-use Rattle.grounding.specs.declared.limits.LimitCode.TheVariants.{Objects}
-use Rattle.grounding.specs.declared.refusal.GroundRefusal.TheVariants.{Limit, NoPenalty}
-use Rattle.grounding.specs.Limits.{free_action, limited, limits, grounded, checked}
-use Rattle.numbered_atoms.specs.Adding.{with_names}
-use Rattle.task_charges.specs.Charges.{step_charges, is_free, charged_with}
+use Rattle.ground_meaning.specs.declared.refusals.limits.TheConstants.{MOST_OBJECTS}
+use Rattle.ground_meaning.specs.declared.refusals.limits.LimitCode.{LimitCode}
+use Rattle.ground_meaning.specs.declared.refusals.limits.LimitCode.TheVariants.{Objects}
+use Rattle.ground_meaning.specs.declared.refusals.refusal.GroundRefusal.TheVariants.{Limit, NoPenalty}
+use Rattle.ground_meaning.specs.refusals.Limits.{free_action, limited, limits, grounded, checked}
+use Rattle.task_instances.specs.fact_rows.Adding.{with_names}
+use Rattle.grounder.specs.costs.Charges.{step_charges, is_free, charged_with}
 use Rattle.grounder.specs.ObjectNames.{object_name}
 use Rattle.grounder.proofs.Refusing.{free_is, no_penalty, is_limited}
 

@@ -1,27 +1,26 @@
 -- The limits of atoms and of initial states.
-use Rattle.std.proofs.Common.{◌≡◌, ℕ, ◌+◌, ◌<◌, ◌≤◌, length, refl, sym, ap, subst, ◌∙◌, arith}
+use Rattle.std.proofs.Common.{◌≡◌, ℕ, ◌+◌, ◌≤◌, length, refl, ap, subst, ◌∙◌, arith}
 use Rattle.std.specs.Prelude.{Result, Ok, Err}
 use Rattle.plain_list.specs.Results.{◌>>=◌}
 use Rattle.plain_list.proofs.Results.{bind_assoc}
 use Rattle.ppddl_model.specs.declared.tree.Task.{Task}
 use Rattle.ppddl_model.specs.Changing.{kept_instances}
 use Rattle.ppddl_model.specs.Steps.{Charges, world}
-use Rattle.joint_choices.specs.Limits.{condition_size}
-use Rattle.joint_choices.specs.Numbering.{Numbering}
-use Rattle.grounding.specs.declared.limits.LimitCode.{LimitCode}
-use Rattle.grounding.specs.declared.limits.LimitCode.TheVariants as limit
-use Rattle.grounding.specs.declared.refusal.GroundRefusal.{GroundRefusal}
-use Rattle.grounding.specs.declared.refusal.GroundRefusal.TheVariants.{CostNotPositive, NoPenalty, Limit, Memory}
-use Rattle.grounding.specs.Atoms.{numbering_of}
-use Rattle.grounding.specs.Codes.{most_of}
-use Rattle.grounding.specs.Limits.{within, instances_within, limits}
-use Rattle.grounding.specs.Starts.{Starts, starts_den, widest_start, starts_of}
-use Rattle.early_limits.specs.Early.{early_limits}
-use Rattle.early_limits.specs.Laws.{later_limits, LimitsBegin}
-use Rattle.early_limits.proofs.Counting.{passes, fails}
-use Rattle.ground_starts.specs.declared.states.InitialStates.{InitialStates}
-use Rattle.ground_starts.specs.Answers as starts
-use Rattle.ground_starts.specs.Answers.{starts_or_refusal}
+use Rattle.ground_meaning.specs.choices.Limits.{condition_size}
+use Rattle.ground_meaning.specs.choices.Numbering.{Numbering}
+use Rattle.ground_meaning.specs.declared.refusals.limits.LimitCode.{LimitCode}
+use Rattle.ground_meaning.specs.declared.refusals.limits.LimitCode.TheVariants as limit
+use Rattle.ground_meaning.specs.declared.refusals.refusal.GroundRefusal.{GroundRefusal}
+use Rattle.ground_meaning.specs.declared.refusals.refusal.GroundRefusal.TheVariants.{CostNotPositive, NoPenalty, Limit, Memory}
+use Rattle.ground_meaning.specs.refusals.Atoms.{numbering_of}
+use Rattle.ground_meaning.specs.refusals.Codes.{most_of}
+use Rattle.ground_meaning.specs.refusals.Limits.{within, instances_within}
+use Rattle.ground_meaning.specs.refusals.Starts.{Starts, starts_den, widest_start, starts_of}
+use Rattle.grounder.specs.limits.Laws.{later_limits}
+use Rattle.grounder.proofs.lemmas.limits.Counting.{passes}
+use Rattle.grounder.specs.declared.starts.states.InitialStates.{InitialStates}
+use Rattle.grounder.specs.starts.Answers as starts
+use Rattle.grounder.specs.starts.Answers.{starts_or_refusal}
 use Rattle.grounder.specs.Limited.{Limited, sized, ended}
 
 limit_of : (a b : Result (Unit {0}) LimitCode) (s : Starts) (code : LimitCode) → (a >>= λ _. b >>= λ _. Ok s) ≡ Err code → (a >>= λ _. b) ≡ Err code
@@ -45,11 +44,6 @@ module _ (task : Task) where
 
   abbrev then_starts : Result (Unit {0}) LimitCode → Result (Unit {0}) LimitCode
   then_starts r = r >>= λ _. start_limits
-
-  pub many_atoms : (count : ℕ) → count ≡ atom_count → most_of limit.Atoms < count → ended task ≡ Err limit.Atoms
-  many_atoms count is above =
-      let over : most_of limit.Atoms < atom_count = omega (arith, is, above) in
-      ap then_starts (fails atom_count limit.Atoms over)
 
   few_atoms : (count : ℕ) → count ≡ atom_count → count ≤ most_of limit.Atoms → ended task ≡ start_limits
   few_atoms count is below =
@@ -85,10 +79,3 @@ pub later_is : (task : Task) (charges : Charges) (tested : ℕ) → (sized task 
 later_is task charges tested =
     bind_assoc (instances_within task charges 0 tested (kept_instances task))
     (λ size. within (size + condition_size (world task) task.problem.goal) limit.GroundSize) (λ _. ended task)
-
-module _ (begin : LimitsBegin) (task : Task) (charges : Charges) where
-  pub limits_tested : (tested : ℕ) → early_limits task ≡ Ok tested → limits task charges ≡ later_limits task charges tested
-  limits_tested tested is = begin task charges ∙ ap (λ r. r >>= later_limits task charges) is
-
-  pub limits_refused : (code : LimitCode) → early_limits task ≡ Err code → limits task charges ≡ Err code
-  limits_refused code is = begin task charges ∙ ap (λ r. r >>= later_limits task charges) is

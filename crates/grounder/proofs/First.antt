@@ -1,25 +1,24 @@
 -- The first kept instance, whose effect may be too large by itself.
-use Rattle.std.proofs.Common.{◌≡◌, ℕ, suc, ◌+◌, ◌<◌, ◌≤◌, List, [], ◌∷◌, ◌++◌, map, length, drop, drop-cons, get_or, add-one, refl, sym, ap, subst, ◌∙◌, arith}
+use Rattle.std.proofs.Common.{◌≡◌, ℕ, suc, ◌+◌, ◌<◌, List, [], ◌∷◌, ◌++◌, map, length, drop, drop-cons, get_or, add-one, refl, sym, ap, ◌∙◌, arith}
 use Rattle.std.specs.Prelude.{flat_map, Result, Ok, Err}
-use Rattle.plain_list.specs.Results.{◌>>=◌}
 use Rattle.ppddl_model.specs.declared.tree.Action.{Action}
 use Rattle.ppddl_model.specs.declared.tree.Task.{Task}
 use Rattle.ppddl_model.specs.Objects.{Binding}
 use Rattle.ppddl_model.specs.Changing.{kept_instances}
 use Rattle.ppddl_model.specs.Steps.{Instance, Charges, world}
-use Rattle.joint_choices.specs.Limits.{effect_size, condition_size}
-use Rattle.grounding.specs.declared.limits.LimitCode.{LimitCode}
-use Rattle.grounding.specs.declared.limits.LimitCode.TheVariants.{Actions, GroundSize}
-use Rattle.grounding.specs.Codes.{most_of}
-use Rattle.grounding.specs.Limits.{within, instances_within}
-use Rattle.ground_sizes.specs.Counted.{counted}
-use Rattle.ground_sizes.proofs.Forgetting.{effect_forgets}
-use Rattle.task_facts.specs.Facts.{table_of}
-use Rattle.kept_bindings.specs.Rows.{Table}
-use Rattle.kept_bindings.specs.Kept.{binding_of_row, AreKept}
-use Rattle.task_atoms.specs.Atoms.{kept_of}
-use Rattle.early_limits.specs.Laws.{later_limits}
-use Rattle.early_limits.proofs.Counting.{passes, fails}
+use Rattle.ground_meaning.specs.choices.Limits.{effect_size}
+use Rattle.ground_meaning.specs.declared.refusals.limits.LimitCode.{LimitCode}
+use Rattle.ground_meaning.specs.declared.refusals.limits.LimitCode.TheVariants.{Actions, GroundSize}
+use Rattle.ground_meaning.specs.refusals.Codes.{most_of}
+use Rattle.ground_meaning.specs.refusals.Limits.{within, instances_within}
+use Rattle.ground_terms.specs.sizes.Counted.{counted}
+use Rattle.ground_terms.proofs.lemmas.sizes.Forgetting.{effect_forgets}
+use Rattle.task_instances.specs.facts.Facts.{table_of}
+use Rattle.task_instances.specs.kept_rows.Rows.{Table}
+use Rattle.task_instances.specs.kept_rows.Kept.{binding_of_row, AreKept}
+use Rattle.grounder.specs.changing_atoms.Atoms.{kept_of}
+use Rattle.grounder.specs.limits.Laws.{later_limits}
+use Rattle.grounder.proofs.lemmas.limits.Counting.{passes, fails}
 
 module _ (task : Task) where
   abbrev pub instance_of : Action → Binding → Instance

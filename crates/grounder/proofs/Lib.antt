@@ -5,3 +5,4 @@ pub mod Ending
 pub mod Standing
 pub mod Counting
 pub mod First
+pub mod lemmas

@@ -2,9 +2,9 @@
 use Rattle.std.proofs.Common.{◌≡◌, sym, ap, subst, ◌∙◌}
 use Rattle.std.specs.Prelude.{Result, Ok, Err}
 use Rattle.plain_list.specs.Results.{◌>>=◌}
-use Rattle.grounding.specs.declared.limits.LimitCode.{LimitCode}
-use Rattle.grounding.specs.declared.refusal.GroundRefusal.{GroundRefusal}
-use Rattle.grounding.specs.declared.refusal.GroundRefusal.TheVariants.{CostNotPositive, NoPenalty, Limit, Memory}
+use Rattle.ground_meaning.specs.declared.refusals.limits.LimitCode.{LimitCode}
+use Rattle.ground_meaning.specs.declared.refusals.refusal.GroundRefusal.{GroundRefusal}
+use Rattle.ground_meaning.specs.declared.refusals.refusal.GroundRefusal.TheVariants.{CostNotPositive, NoPenalty, Limit, Memory}
 use Rattle.grounder.specs.Limited.{Limited}
 
 pub refused_on : {A B : Type 0} (IsA : A → Type 0) (IsB : B → Type 0) (e : GroundRefusal) (first : Result (Unit {0}) LimitCode)

@@ -1,21 +1,21 @@
 -- The ground problem of parts, and what it is refused for.
-use Rattle.std.proofs.Common.{◌≡◌, ℕ, refl, sym, ap, ◌∙◌}
-use Rattle.std.specs.Prelude.{Result, Ok, Err, Some}
+use Rattle.std.proofs.Common.{◌≡◌, ℕ, sym, ap, ◌∙◌}
+use Rattle.std.specs.Prelude.{Ok, Err}
 use Rattle.ppddl_model.specs.declared.tree.Task.{Task}
 use Rattle.ppddl_model.specs.Steps.{Charges, Terms}
 use Rattle.ppddl_model.specs.WellFormed.{IsWellFormed}
 use Rattle.ground_model.specs.Ground.{Ground, of_parts}
-use Rattle.grounding.specs.declared.refusal.GroundRefusal.{GroundRefusal}
-use Rattle.grounding.specs.declared.refusal.GroundRefusal.TheVariants.{CostNotPositive, NoPenalty, Limit, Memory}
-use Rattle.grounding.specs.Laws.{AreInRange, GroundedStands}
-use Rattle.grounding.specs.Limits.{limited, limits, grounded}
-use Rattle.grounding.specs.Problem.{ground_problem}
-use Rattle.task_charges.specs.Charges.{charged_with}
+use Rattle.ground_meaning.specs.declared.refusals.refusal.GroundRefusal.{GroundRefusal}
+use Rattle.ground_meaning.specs.declared.refusals.refusal.GroundRefusal.TheVariants.{CostNotPositive, NoPenalty, Limit, Memory}
+use Rattle.ground_meaning.specs.refusals.Laws.{AreInRange, GroundedStands}
+use Rattle.ground_meaning.specs.refusals.Limits.{limited, limits, grounded}
+use Rattle.ground_meaning.specs.refusals.Problem.{ground_problem}
+use Rattle.grounder.specs.costs.Charges.{charged_with}
 use Rattle.grounder.specs.declared.parts.Parts.{Parts}
 use Rattle.grounder.specs.Answers.{Refuses, StandsFor}
 use Rattle.grounder.specs.Charged.{IsCharged}
 use Rattle.grounder.specs.Limited.{Limited}
-use Rattle.grounder.specs.Parts.{IsEndOf, ArePartsOf}
+use Rattle.grounder.specs.Parts.{ArePartsOf}
 use Rattle.grounder.proofs.Refusing.{is_limited}
 
 abbrev pub made_of : ℕ → Parts → Ground

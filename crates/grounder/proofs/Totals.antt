@@ -1,23 +1,20 @@
 -- The limits of kept instances, and of the size with the goal.
-use Rattle.std.proofs.Common.{◌≡◌, ℕ, ◌+◌, ◌<◌, ◌≤◌, refl, sym, ap, subst, ◌∙◌, arith}
+use Rattle.std.proofs.Common.{◌≡◌, ℕ, ◌+◌, ◌<◌, ◌≤◌, sym, ap, ◌∙◌, arith}
 use Rattle.std.specs.Prelude.{Result, Ok, Err}
 use Rattle.plain_list.specs.Results.{◌>>=◌}
 use Rattle.ppddl_model.specs.declared.tree.Task.{Task}
 use Rattle.ppddl_model.specs.Changing.{kept_instances}
 use Rattle.ppddl_model.specs.Steps.{Charges, world}
-use Rattle.joint_choices.specs.Limits.{condition_size}
-use Rattle.grounding.specs.declared.limits.LimitCode.{LimitCode}
-use Rattle.grounding.specs.declared.limits.LimitCode.TheVariants.{GroundSize}
-use Rattle.grounding.specs.declared.refusal.GroundRefusal.{GroundRefusal}
-use Rattle.grounding.specs.declared.refusal.GroundRefusal.TheVariants.{CostNotPositive, NoPenalty, Limit, Memory}
-use Rattle.grounding.specs.Codes.{most_of}
-use Rattle.grounding.specs.Limits.{within, instances_within}
-use Rattle.ground_sizes.specs.Counted.{counted}
-use Rattle.ground_sizes.proofs.Forgetting.{condition_forgets}
-use Rattle.task_facts.specs.Facts.{table_of}
-use Rattle.early_limits.proofs.Counting.{passes, fails}
-use Rattle.ground_actions.specs.Answers as actions
-use Rattle.grounder.specs.Limited.{Limited, sized}
+use Rattle.ground_meaning.specs.choices.Limits.{condition_size}
+use Rattle.ground_meaning.specs.declared.refusals.limits.LimitCode.{LimitCode}
+use Rattle.ground_meaning.specs.declared.refusals.limits.LimitCode.TheVariants.{GroundSize}
+use Rattle.ground_meaning.specs.refusals.Codes.{most_of}
+use Rattle.ground_meaning.specs.refusals.Limits.{within, instances_within}
+use Rattle.ground_terms.specs.sizes.Counted.{counted}
+use Rattle.ground_terms.proofs.lemmas.sizes.Forgetting.{condition_forgets}
+use Rattle.task_instances.specs.facts.Facts.{table_of}
+use Rattle.grounder.proofs.lemmas.limits.Counting.{passes, fails}
+use Rattle.grounder.specs.Limited.{sized}
 
 module _ (task : Task) (charges : Charges) (tested : ℕ) where
   abbrev goal_size : ℕ
@@ -28,13 +25,6 @@ module _ (task : Task) (charges : Charges) (tested : ℕ) where
 
   abbrev instances : Result ℕ LimitCode
   instances = instances_within task charges 0 tested (kept_instances task)
-
-  pub instances_refused : {A : Type 0} (Is : A → Type 0) (e : GroundRefusal) → actions.Answers task charges (Err e) instances
-      → Limited Is (Err e) (sized task charges tested)
-  instances_refused Is (CostNotPositive line) is = absurd is
-  instances_refused Is (NoPenalty line) is = absurd is
-  instances_refused Is (Limit code) is = ap with_goal is
-  instances_refused Is Memory is = tt
 
   module _ (size goal whole : ℕ) (is : instances ≡ Ok size) (counts : goal ≡ counted (condition_size (table_of task) task.problem.goal))
       (sum : whole ≡ counted (size + goal)) where

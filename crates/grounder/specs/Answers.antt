@@ -8,10 +8,10 @@ use Rattle.ppddl_model.specs.declared.tree.Task.{Task}
 use Rattle.ppddl_model.specs.Steps as model
 use Rattle.ppddl_model.specs.Steps.{Charges, charges_of}
 use Rattle.ground_model.specs.Ground.{Ground}
-use Rattle.ground_stands.specs.Stands.{IsGroundOf}
-use Rattle.grounding.specs.declared.refusal.GroundRefusal.{GroundRefusal}
-use Rattle.grounding.specs.declared.refusal.GroundRefusal.TheVariants.{Memory}
-use Rattle.grounding.specs.Problem.{ground_problem}
+use Rattle.ground_meaning.specs.stands.Stands.{IsGroundOf}
+use Rattle.ground_meaning.specs.declared.refusals.refusal.GroundRefusal.{GroundRefusal}
+use Rattle.ground_meaning.specs.declared.refusals.refusal.GroundRefusal.TheVariants.{Memory}
+use Rattle.ground_meaning.specs.refusals.Problem.{ground_problem}
 use Rattle.grounder.specs.declared.terms.Terms.{Terms}
 
 abbrev pub terms_of : Terms → model.Terms

@@ -3,8 +3,8 @@
 use Rattle.std.specs.Prelude.{◌≡◌, ℕ, None, Some}
 use Rattle.ppddl_model.specs.declared.tree.Task.{Task}
 use Rattle.ppddl_model.specs.Steps.{Terms, charges_of}
-use Rattle.task_charges.specs.Charges.{charged_with}
-use Rattle.grounding.specs.Limits.{free_action}
+use Rattle.grounder.specs.costs.Charges.{charged_with}
+use Rattle.ground_meaning.specs.refusals.Limits.{free_action}
 
 pub record IsCharged (task : Task) (terms : Terms) (penalty : ℕ) : Type 0 where
   pub none_free : free_action task terms ≡ None

@@ -4,3 +4,10 @@ pub mod Limited
 pub mod Named
 pub mod ObjectNames
 pub mod Parts
+pub mod limits
+pub mod costs
+pub mod instance_names
+pub mod texts
+pub mod changing_atoms
+pub mod starts
+pub mod actions

@@ -7,14 +7,14 @@ use Rattle.plain_list.specs.Results.{◌>>=◌}
 use Rattle.ppddl_model.specs.declared.tree.Task.{Task}
 use Rattle.ppddl_model.specs.Changing.{kept_instances}
 use Rattle.ppddl_model.specs.Steps.{Charges, world}
-use Rattle.joint_choices.specs.Limits.{condition_size}
-use Rattle.grounding.specs.declared.limits.LimitCode.{LimitCode}
-use Rattle.grounding.specs.declared.limits.LimitCode.TheVariants as limit
-use Rattle.grounding.specs.declared.refusal.GroundRefusal.{GroundRefusal}
-use Rattle.grounding.specs.declared.refusal.GroundRefusal.TheVariants.{Limit, Memory}
-use Rattle.grounding.specs.Atoms.{numbering_of}
-use Rattle.grounding.specs.Limits.{within, instances_within}
-use Rattle.grounding.specs.Starts.{starts_den, widest_start}
+use Rattle.ground_meaning.specs.choices.Limits.{condition_size}
+use Rattle.ground_meaning.specs.declared.refusals.limits.LimitCode.{LimitCode}
+use Rattle.ground_meaning.specs.declared.refusals.limits.LimitCode.TheVariants as limit
+use Rattle.ground_meaning.specs.declared.refusals.refusal.GroundRefusal.{GroundRefusal}
+use Rattle.ground_meaning.specs.declared.refusals.refusal.GroundRefusal.TheVariants.{Limit, Memory}
+use Rattle.ground_meaning.specs.refusals.Atoms.{numbering_of}
+use Rattle.ground_meaning.specs.refusals.Limits.{within, instances_within}
+use Rattle.ground_meaning.specs.refusals.Starts.{starts_den, widest_start}
 
 abbrev pub Limited : {A : Type 0} → (A → Type 0) → Result A GroundRefusal → Result (Unit {0}) LimitCode → Type 0
 Limited Is (Ok x) answer = (answer ≡ Ok tt) × Is x

@@ -5,10 +5,10 @@ use Rattle.std.specs.Prelude.{◌≡◌, [], map}
 use Rattle.ppddl_model.specs.declared.tree.Task.{Task}
 use Rattle.ppddl_model.specs.Changing.{kept_instances}
 use Rattle.ppddl_model.specs.Steps.{Charges, world}
-use Rattle.joint_choices.specs.Numbering.{ground_condition}
-use Rattle.grounding.specs.Atoms.{numbering_of}
-use Rattle.grounding.specs.Starts.{starts_of}
-use Rattle.grounding.specs.Problem.{ground_action}
+use Rattle.ground_meaning.specs.choices.Numbering.{ground_condition}
+use Rattle.ground_meaning.specs.refusals.Atoms.{numbering_of}
+use Rattle.ground_meaning.specs.refusals.Starts.{starts_of}
+use Rattle.ground_meaning.specs.refusals.Problem.{ground_action}
 use Rattle.grounder.specs.declared.parts.Ends.{Ends}
 use Rattle.grounder.specs.declared.parts.Parts.{Parts}
 

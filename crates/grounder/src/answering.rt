@@ -2,21 +2,21 @@
 
 ghost use Rattle.std.specs.Prelude.{IfOk};
 ghost use Rattle.ppddl_model.specs.WellFormed.{IsWellFormed};
-ghost use Rattle.grounding.specs.Laws.{AreInRange};
-ghost use Rattle.grounding.specs.Limits.{grounded};
+ghost use Rattle.ground_meaning.specs.refusals.Laws.{AreInRange};
+ghost use Rattle.ground_meaning.specs.refusals.Limits.{grounded};
 ghost use Rattle.grounder.specs.Answers.{terms_of, Answers, StandsFor};
 
 use crate::charging::charge;
+use crate::costs::base_cost;
 use crate::objects::early;
 use crate::parts::{Ends, Parts, parts_within};
+use crate::starts::InitialStates;
 use crate::terms::Terms;
+use ground_meaning::{GroundRefusal, grounding_laws};
 use ground_model::GroundProblem;
-use ground_starts::InitialStates;
-use grounding::{GroundRefusal, grounding_laws};
 use ppddl_model::Task;
 use std::alloc::Global;
-use task_charges::base_cost;
-use task_facts::TaskFacts;
+use task_instances::TaskFacts;
 
 /// The ground problem of a well-formed task, for a penalty and a step cost in range. Refused is, in this
 /// order, an action that may cost nothing, a task with neither a penalty nor a goal reward, and the first

@@ -2,17 +2,17 @@
 
 ghost use Rattle.std.specs.Prelude.{◌≡◌, IfOk, IfErr};
 ghost use Rattle.ppddl_model.specs.Steps.{base_cost};
-ghost use Rattle.task_charges.specs.Charges.{step_charges};
-ghost use Rattle.grounding.specs.Limits.{grounded};
+ghost use Rattle.grounder.specs.costs.Charges.{step_charges};
+ghost use Rattle.ground_meaning.specs.refusals.Limits.{grounded};
 ghost use Rattle.grounder.specs.Answers.{terms_of, Refuses};
 ghost use Rattle.grounder.specs.Charged.{IsCharged};
 
+use crate::costs::{first_free, penalty_of};
 use crate::terms::Terms;
-use ground_names::LeastValues;
-use grounding::GroundRefusal;
+use ground_meaning::GroundRefusal;
+use ground_terms::LeastValues;
 use std::alloc::Global;
-use task_charges::{first_free, penalty_of};
-use task_facts::TaskFacts;
+use task_instances::TaskFacts;
 
 /// The penalty of giving up, where each action costs something: refused is an action that may cost
 /// nothing, and then a task with neither a penalty nor a goal reward.

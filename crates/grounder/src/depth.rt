@@ -1,10 +1,10 @@
 //! How many variables are bound at once while a task is grounded.
 
-ghost use Rattle.ground_sizes.specs.Typed.{IsTyped};
+ghost use Rattle.ground_terms.specs.sizes.Typed.{IsTyped};
 
-use ground_sizes::count_bindings;
+use ground_terms::count_bindings;
 use ppddl_model::{Action, Condition, Effect, Param};
-use task_facts::TaskFacts;
+use task_instances::TaskFacts;
 use type_table::TypeTable;
 
 /// The most variables that are bound at once. Each stands on the stack of the call that binds it, and takes

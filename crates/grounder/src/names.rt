@@ -1,15 +1,15 @@
 //! The atoms of a task and its facts by their texts.
 
 ghost use Rattle.std.specs.Prelude.{◌≡◌, IfOk};
-ghost use Rattle.grounding.specs.Atoms.{numbering_of};
+ghost use Rattle.ground_meaning.specs.refusals.Atoms.{numbering_of};
 ghost use Rattle.grounder.specs.Named.{AreNamesOf};
 
-use atom_texts::name_set;
-use ground_names::{FunctionValues, NameSet};
+use crate::changing_atoms::fact_list;
+use crate::texts::name_set;
+use ground_terms::{FunctionValues, NameSet};
 use plain_list::Text;
 use std::alloc::{AllocError, Global};
-use task_atoms::fact_list;
-use task_facts::TaskFacts;
+use task_instances::TaskFacts;
 
 /// By what the parts of a task are found while it is grounded.
 #[derive(Drop)]

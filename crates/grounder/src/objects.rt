@@ -2,19 +2,19 @@
 
 ghost use Rattle.std.specs.Prelude.{◌≡◌, ◌+◌, ◌<◌, ◌≤◌, ◌^◌, nat_le, length, map, IfOk, IfErr};
 ghost use Rattle.ppddl_model.specs.Steps.{base_cost, world};
-ghost use Rattle.grounding.specs.declared.limits.TheConstants.{MOST_OBJECTS};
-ghost use Rattle.grounding.specs.Limits.{grounded};
-ghost use Rattle.task_charges.specs.Charges.{step_charges};
-ghost use Rattle.numbered_atoms.specs.Adding.{with_names};
+ghost use Rattle.ground_meaning.specs.declared.refusals.limits.TheConstants.{MOST_OBJECTS};
+ghost use Rattle.ground_meaning.specs.refusals.Limits.{grounded};
+ghost use Rattle.grounder.specs.costs.Charges.{step_charges};
+ghost use Rattle.task_instances.specs.fact_rows.Adding.{with_names};
 ghost use Rattle.grounder.specs.Answers.{terms_of, Refuses};
 ghost use Rattle.grounder.specs.ObjectNames.{object_name};
 
+use crate::costs::penalty_of;
 use crate::terms::Terms;
-use ground_names::NameSet;
-use grounding::{GroundRefusal, LimitCode, MOST_OBJECTS};
+use ground_meaning::{GroundRefusal, LimitCode, MOST_OBJECTS};
+use ground_terms::NameSet;
 use ppddl_model::{ObjectDecl, Task};
 use std::alloc::{AllocError, Global};
-use task_charges::penalty_of;
 
 /// Puts in the names of declared objects, and counts all names.
 fn add_names(

@@ -4,14 +4,13 @@ ghost use Rattle.std.specs.Prelude.{◌≡◌, false, Err};
 ghost use Rattle.std.specs.List.{AllZip};
 ghost use Rattle.ppddl_model.specs.Changing.{kept_instances};
 ghost use Rattle.ppddl_model.specs.Steps.{Charges};
-ghost use Rattle.grounding.specs.declared.limits.LimitCode.TheVariants.{GroundSize};
-ghost use Rattle.grounding.specs.Limits.{instances_within};
-ghost use Rattle.kept_bindings.specs.Kept.{AreKept};
+ghost use Rattle.ground_meaning.specs.declared.refusals.limits.LimitCode.TheVariants.{GroundSize};
+ghost use Rattle.ground_meaning.specs.refusals.Limits.{instances_within};
+ghost use Rattle.task_instances.specs.kept_rows.Kept.{AreKept};
 
-use ground_sizes::effect_size;
-use grounding::MOST_GROUND_SIZE;
-use kept_bindings::Rows;
-use task_facts::TaskFacts;
+use ground_meaning::MOST_GROUND_SIZE;
+use ground_terms::effect_size;
+use task_instances::{Rows, TaskFacts};
 
 /// Whether the effect of the first kept instance, counted once, is within the limit on the ground size,
 /// where the tried preconditions have the size `tested`.

@@ -3,28 +3,28 @@
 ghost use Rattle.std.specs.Prelude.{◌≡◌, Ok, length};
 ghost use Rattle.ppddl_model.specs.Steps.{Charges, base_cost};
 ghost use Rattle.ppddl_model.specs.WellFormed.{IsWellFormed};
-ghost use Rattle.grounding.specs.Atoms.{numbering_of};
-ghost use Rattle.grounding.specs.Limits.{limits};
-ghost use Rattle.early_limits.specs.Early.{early_limits};
-ghost use Rattle.early_limits.specs.Laws.{later_limits};
-ghost use Rattle.ground_actions.specs.Answers.{IsBindingOf};
+ghost use Rattle.ground_meaning.specs.refusals.Atoms.{numbering_of};
+ghost use Rattle.ground_meaning.specs.refusals.Limits.{limits};
+ghost use Rattle.grounder.specs.limits.Early.{early_limits};
+ghost use Rattle.grounder.specs.limits.Laws.{later_limits};
+ghost use Rattle.grounder.specs.actions.Answers.{IsBindingOf};
 ghost use Rattle.grounder.specs.Limited.{Limited, ended};
 ghost use Rattle.grounder.specs.Parts.{IsEndOf, ArePartsOf};
 
+use crate::changing_atoms::{changing_texts, kept_of_actions};
 use crate::depth::is_deep;
+use crate::limits::{early_limits, limit_laws};
 use crate::names::names_of;
 use crate::outset::first_fits;
 use crate::sizing::sized_actions;
-use early_limits::{early_limits, limit_laws};
-use ground_conditions::{Binding, ground_condition};
+use crate::starts::{InitialStates, ground_starts};
+use ground_meaning::{GroundRefusal, LimitCode};
 use ground_model::{GroundAction, GroundCondition, List, MOST_ATOMS};
-use ground_names::Scope;
-use ground_starts::{InitialStates, ground_starts};
-use grounding::{GroundRefusal, LimitCode};
+use ground_terms::Scope;
+use outcome_dist::{Binding, ground_condition};
 use plain_list::Text;
 use std::alloc::Global;
-use task_atoms::{changing_texts, kept_of_actions};
-use task_facts::TaskFacts;
+use task_instances::TaskFacts;
 
 /// The goal and the initial states of a ground problem.
 #[derive(Drop)]

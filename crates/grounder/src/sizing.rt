@@ -5,20 +5,19 @@ ghost use Rattle.std.specs.List.{AllZip};
 ghost use Rattle.ppddl_model.specs.Changing.{kept_instances};
 ghost use Rattle.ppddl_model.specs.Steps.{Charges, base_cost};
 ghost use Rattle.ppddl_model.specs.WellFormed.{IsWellFormed};
-ghost use Rattle.grounding.specs.Problem.{ground_action};
-ghost use Rattle.kept_bindings.specs.Kept.{AreKept};
-ghost use Rattle.early_limits.specs.Early.{early_limits};
-ghost use Rattle.ground_actions.specs.Answers.{IsBindingOf};
+ghost use Rattle.ground_meaning.specs.refusals.Problem.{ground_action};
+ghost use Rattle.task_instances.specs.kept_rows.Kept.{AreKept};
+ghost use Rattle.grounder.specs.limits.Early.{early_limits};
+ghost use Rattle.grounder.specs.actions.Answers.{IsBindingOf};
 ghost use Rattle.grounder.specs.Limited.{Limited, sized};
 
-use ground_actions::ground_actions;
-use ground_conditions::Binding;
+use crate::actions::ground_actions;
+use ground_meaning::{GroundRefusal, LimitCode, MOST_GROUND_SIZE};
 use ground_model::{GroundAction, List};
-use ground_sizes::condition_size;
-use grounding::{GroundRefusal, LimitCode, MOST_GROUND_SIZE};
-use kept_bindings::Rows;
+use ground_terms::condition_size;
+use outcome_dist::Binding;
 use std::alloc::Global;
-use task_facts::TaskFacts;
+use task_instances::{Rows, TaskFacts};
 
 /// The ground actions, where they and the goal are within the limits.
 pub(crate) fn sized_actions(

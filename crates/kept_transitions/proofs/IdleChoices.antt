@@ -1,10 +1,10 @@
 -- A choice that is idle leads from each state to that state, and costs the same in each.
-use Rattle.std.proofs.Common.{◌≡◌, ℕ, ◌==◌, Bool, true, false, ◌&&◌, [], length, refl, sym, ap, ◌∙◌, arith, eqb-true}
+use Rattle.std.proofs.Common.{◌≡◌, ◌==◌, Bool, true, false, ◌&&◌, [], length, refl, sym, ap, ◌∙◌, eqb-true}
 use Rattle.std.proofs.lemmas.Bool.{and_parts}
 use Rattle.std.proofs.lemmas.List.{nil_from_length}
 use Rattle.ground_model.specs.declared.action.Choice.{Choice}
 use Rattle.ground_model.specs.Packed.{State, has_bit}
-use Rattle.ground_model.specs.Choices.{after, cost_of, next_state}
+use Rattle.ground_model.specs.Choices.{after, next_state}
 use Rattle.ground_model.proofs.Packed.{same_packed}
 use Rattle.ground_step.proofs.Packed.{AreWords, is_packed}
 use Rattle.kept_transitions.specs.Idle.{is_idle}
@@ -40,6 +40,3 @@ idle_stays s c are idle =
     ap (next_state s) (idle_is_nothing c idle)
     ∙ same_packed (after (has_bit s) (nothing_of c)) (has_bit s) (length s) (λ q below. stays_so (has_bit s q))
     ∙ sym (is_packed s are)
-
-pub idle_cost : (bit : ℕ → Bool) (c : Choice) → is_idle c ≡ true → cost_of bit c ≡ c.cost
-idle_cost bit c idle = ap (cost_of bit) (idle_is_nothing c idle) ∙ omega arith

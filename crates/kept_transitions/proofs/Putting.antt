@@ -3,13 +3,13 @@ use Rattle.std.proofs.Common.{◌≡◌, ℕ, ◌+◌, ◌*◌, ◌<◌, ◌≤�
 use Rattle.std.specs.List.{slice_get}
 use Rattle.std.proofs.lemmas.List.{take_more}
 use Rattle.std.proofs.lemmas.Option.{slice_get_within, get_or_from_slice_get}
-use Rattle.weighted.proofs.Totals.{total-append}
+use Rattle.plain_list.proofs.lemmas.weighted.Totals.{total-append}
 use Rattle.ground_model.specs.declared.action.Choice.{Choice}
 use Rattle.ground_model.specs.declared.action.GroundAction.{GroundAction}
 use Rattle.ground_model.specs.Packed.{State, has_bit}
 use Rattle.ground_model.specs.Choices.{cost_of, next_state}
 use Rattle.ground_model.specs.Ground.{Ground}
-use Rattle.distinct_actions.specs.Enough.{AreEnough}
+use Rattle.applicable_actions.specs.distinct.Enough.{AreEnough}
 use Rattle.kept_transitions.specs.declared.kept_action.KeptAction.{KeptAction}
 use Rattle.kept_transitions.specs.declared.kept_row.KeptRow.{KeptRow}
 use Rattle.kept_transitions.specs.Idle.{is_idle, moving}

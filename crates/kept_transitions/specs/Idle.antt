@@ -2,7 +2,7 @@
 --     is_idle c                  c adds and deletes nothing, under no condition either: it leads from each state to that state
 --     moving cs                  how many of these choices are not idle
 use Rattle.std.specs.Prelude.{ℕ, Bool, cond, ◌&&◌, ◌==◌, List, length}
-use Rattle.weighted.specs.Mean.{total}
+use Rattle.plain_list.specs.weighted.Mean.{total}
 use Rattle.ground_model.specs.declared.action.Choice.{Choice}
 
 abbrev pub is_idle : Choice → Bool

@@ -11,14 +11,14 @@
 --     HasGrown t u               u is t with more actions and ids behind the others
 use Rattle.std.specs.Prelude.{◌≡◌, ℕ, ◌+◌, ◌*◌, ◌<◌, false, cond, Option, Some, List, ◌++◌, length, take, get_or}
 use Rattle.std.specs.List.{slice_get}
-use Rattle.weighted.specs.Mean.{total}
+use Rattle.plain_list.specs.weighted.Mean.{total}
 use Rattle.ground_model.specs.declared.action.Choice.{Choice}
 use Rattle.ground_model.specs.declared.action.GroundAction.{GroundAction}
 use Rattle.ground_model.specs.Packed.{State, has_bit}
 use Rattle.ground_model.specs.Choices.{cost_of, next_state}
 use Rattle.ground_model.specs.Ground.{Ground}
 use Rattle.ground_model.specs.Steps.{ground_process}
-use Rattle.distinct_actions.specs.Enough.{AreEnough}
+use Rattle.applicable_actions.specs.distinct.Enough.{AreEnough}
 use Rattle.kept_transitions.specs.declared.kept_action.KeptAction.{KeptAction}
 use Rattle.kept_transitions.specs.declared.kept_row.KeptRow.{KeptRow}
 use Rattle.kept_transitions.specs.Idle.{is_idle, moving}

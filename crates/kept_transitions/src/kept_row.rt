@@ -1,6 +1,6 @@
 //! Where the kept actions of an id stand.
 
-ghost use Rattle.std.specs.Prelude.{◌≡◌, ◌≤◌, ◌↔◌, IsTrue};
+ghost use Rattle.std.specs.Prelude.{◌≡◌, ◌↔◌, IsTrue};
 ghost use Rattle.kept_transitions.specs.Rows.{IsKept, untried};
 
 /// Where the kept actions of an id stand: from `first` up to below `past`. An id of which nothing is kept has a

@@ -17,6 +17,3 @@ pub use kept::Kept;
 pub use kept_action::KeptAction;
 pub use kept_row::KeptRow;
 pub use room::Room;
-
-#[cfg(test)]
-mod tests;

@@ -3,7 +3,7 @@ use Rattle.std.proofs.Common.{◌≡◌, ℕ, zero, suc, ◌+◌, ◌*◌, ◌<�
 use Rattle.std.specs.Prelude.{flat_map, IfOk, Result, Ok, Err}
 use denote.Hole.Carrier.{hidden}
 use Rattle.exact_fraction.specs.Divisors.{lcm_of, common_multiple}
-use Rattle.weighted.specs.Mean.{total}
+use Rattle.plain_list.specs.weighted.Mean.{total}
 use Rattle.ppddl_model.specs.declared.tree.Branch.{Branch}
 use Rattle.ppddl_model.specs.declared.tree.Condition.{Condition}
 use Rattle.ppddl_model.specs.declared.tree.Effect.{Effect, Row_of-Effect, end_of-Effect, more_of-Effect, items-the_row-Effect, items_hidden-the_row-Effect-0}
@@ -13,12 +13,12 @@ use Rattle.ppddl_model.specs.declared.tree.Effect.TheVariants as effect
 use Rattle.ppddl_model.specs.declared.tree.Param.{Param}
 use Rattle.ppddl_model.specs.Objects.{World, Binding, objects_of, bindings}
 use Rattle.ground_model.specs.declared.action.Choice.{Choice}
-use Rattle.joint_choices.specs.Numbering.{Numbering, ground_condition}
-use Rattle.joint_choices.specs.Joint.{idle, guard, product_with, choices, choices_each, branch_choices, own_den, inner_den, dens_of, den_of, merged, with_rest}
-use Rattle.joint_choices.specs.Limits.{widest, widest_each, widest_branches, widest_with, greatest}
+use Rattle.ground_meaning.specs.choices.Numbering.{Numbering, ground_condition}
+use Rattle.ground_meaning.specs.choices.Joint.{idle, guard, product_with, choices, choices_each, branch_choices, own_den, inner_den, dens_of, den_of, merged, with_rest}
+use Rattle.ground_meaning.specs.choices.Limits.{widest, widest_each, widest_branches, widest_with, greatest}
 use Rattle.ppddl_model.specs.declared.tree.ValueItem.{ValueItem}
-use Rattle.ground_sizes.specs.Valued.{with_values}
-use Rattle.ground_sizes.proofs.Forgetting.{den_forgets}
+use Rattle.ground_terms.specs.sizes.Valued.{with_values}
+use Rattle.ground_terms.proofs.lemmas.sizes.Forgetting.{den_forgets}
 use Rattle.outcome_dist.specs.Draws.{drawn, width, own_of, inner_of, branch_drawn, branches_drawn, branches_width}
 
 module _ (w : World) (n : Numbering) where

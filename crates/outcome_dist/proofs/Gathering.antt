@@ -1,22 +1,22 @@
 -- The choices of branches that are gathered one after another.
 use Rattle.std.proofs.Common.{◌≡◌, ℕ, ◌-◌, ◌*◌, ◌/◌, ◌≤◌, max, List, [], ◌∷◌, length, map, sym, ap, subst, ◌∙◌, arith}
 use Rattle.std.specs.Prelude.{flat_map}
-use Rattle.weighted.specs.Mean.{total}
+use Rattle.plain_list.specs.weighted.Mean.{total}
 use Rattle.ppddl_model.specs.declared.tree.Branch.{Branch}
 use Rattle.ppddl_model.specs.declared.tree.ValueItem.{ValueItem}
 use Rattle.ppddl_model.specs.Denominator.{share}
 use Rattle.ppddl_model.specs.Objects.{World, Binding}
-use Rattle.ground_sizes.specs.Valued.{with_values}
+use Rattle.ground_terms.specs.sizes.Valued.{with_values}
 use Rattle.ground_model.specs.declared.action.Choice.{Choice}
 use Rattle.ground_model.specs.declared.limits.TheConstants.{MOST_CHOICES}
-use Rattle.joint_choices.specs.Numbering.{Numbering}
-use Rattle.joint_choices.specs.Joint.{weight_of, idle, scaled, choices, merged, with_rest}
-use Rattle.joint_choices.specs.Limits.{widest, greatest}
-use Rattle.joint_choices.proofs.Weights.{total-merged_choices}
-use Rattle.choice_lists.specs.declared.refusal.JointRefusal.{JointRefusal}
-use Rattle.choice_lists.specs.Piles.{merging}
-use Rattle.choice_lists.specs.Refusals.{IsTooMany}
-use Rattle.choice_lists.proofs.MergeSteps.{merging-append, too_many}
+use Rattle.ground_meaning.specs.choices.Numbering.{Numbering}
+use Rattle.ground_meaning.specs.choices.Joint.{weight_of, idle, scaled, choices, merged, with_rest}
+use Rattle.ground_meaning.specs.choices.Limits.{widest, greatest}
+use Rattle.ground_meaning.proofs.lemmas.choices.Weights.{total-merged_choices}
+use Rattle.outcome_dist.specs.declared.lists.refusal.JointRefusal.{JointRefusal}
+use Rattle.outcome_dist.specs.lists.Piles.{merging}
+use Rattle.outcome_dist.specs.lists.Refusals.{IsTooMany}
+use Rattle.outcome_dist.proofs.lemmas.lists.MergeSteps.{merging-append, too_many}
 use Rattle.outcome_dist.specs.Draws.{IsWide, own_of, inner_of, factor_of, branch_drawn, branches_drawn, branches_width}
 use Rattle.outcome_dist.proofs.Walks.{wider, long_is_wide}
 use Rattle.outcome_dist.proofs.EffectForms.{den_same, inner_forgets}
@@ -29,10 +29,6 @@ module _ (w : World) (n : Numbering) (own inner : ℕ) (b : Binding) where
     pub same : merging list (flat_map (branch_drawn w n own inner b) rest) ≡ merging [] (flat_map (branch_drawn w n own inner b) all)
     pub within : widths rest ≤ widths all
     pub narrow : widths rest ≤ MOST_CHOICES → widths all ≤ MOST_CHOICES
-
-  pub gathered_none : (list : List Choice) (all : List Branch) → list ≡ [] → Gathered list all all
-  gathered_none list all is =
-      record { same = ap (λ l. merging l (flat_map (branch_drawn w n own inner b) all)) is; within = omega arith; narrow = λ few. few }
 
   pub gathered_list : (list : List Choice) (xs ys all : List Branch) → xs ≡ ys → Gathered list xs all → Gathered list ys all
   gathered_list list xs ys all is kept = subst (λ l. Gathered list l all) is kept
@@ -55,12 +51,6 @@ module _ (w : World) (n : Numbering) (own inner : ℕ) (b : Binding) where
       ≡ merging (merging [] (flat_map (branch_drawn w n own inner b) all)) (idle (own * inner - total weight_of (flat_map (branch_drawn w n own inner b) all)) ∷ [])
   whole_is all =
       merging-append [] (flat_map (branch_drawn w n own inner b) all) (idle (own * inner - total weight_of (flat_map (branch_drawn w n own inner b) all)) ∷ [])
-
-  pub draw_refused : (e : JointRefusal) (list : List Choice) (x : Branch) (rest all : List Branch) → Gathered list (x ∷ rest) all
-      → IsWide e (widest w n x.effect b) → IsWide e (max (widths all) (length (whole all)))
-  draw_refused e list x rest all kept long =
-      let before : widths (x ∷ rest) ≤ widths all = kept.within in
-      wider e (widest w n x.effect b) (max (widths all) (length (whole all))) (omega (arith, before)) long
 
   pub gather_refused : (e : JointRefusal) (list : List Choice) (x : Branch) (rest all : List Branch) → Gathered list (x ∷ rest) all
       → IsTooMany e (merging list (branch_drawn w n own inner b x)) → IsWide e (max (widths all) (length (whole all)))

@@ -1,3 +1,4 @@
 pub mod Walks
 pub mod EffectForms
 pub mod Gathering
+pub mod lemmas

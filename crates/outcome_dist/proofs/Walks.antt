@@ -2,11 +2,11 @@
 use Rattle.std.proofs.Common.{◌≡◌, ℕ, suc, ◌+◌, ◌<◌, ◌≤◌, max, List, [], ◌∷◌, ◌++◌, length, map, drop, drop-cons, get_or, add-one, refl, sym, ap, subst, ◌∙◌, arith}
 use Rattle.ground_model.specs.declared.action.Choice.{Choice}
 use Rattle.ground_model.specs.declared.limits.TheConstants.{MOST_CHOICES}
-use Rattle.joint_choices.specs.Joint.{with_factor, product_with}
-use Rattle.joint_choices.specs.Limits.{widest_with, greatest}
-use Rattle.choice_lists.specs.declared.refusal.JointRefusal.{JointRefusal}
-use Rattle.choice_lists.specs.declared.refusal.JointRefusal.TheVariants.{Choices, Denominator, OutcomeCost, Memory}
-use Rattle.choice_lists.specs.Refusals.{IsTooMany}
+use Rattle.ground_meaning.specs.choices.Joint.{with_factor, product_with}
+use Rattle.ground_meaning.specs.choices.Limits.{widest_with, greatest}
+use Rattle.outcome_dist.specs.declared.lists.refusal.JointRefusal.{JointRefusal}
+use Rattle.outcome_dist.specs.declared.lists.refusal.JointRefusal.TheVariants.{Choices, Denominator, OutcomeCost, Memory}
+use Rattle.outcome_dist.specs.lists.Refusals.{IsTooMany}
 use Rattle.outcome_dist.specs.Draws.{IsWide, drawn, width}
 
 product-append : (done : List Choice) (xs ys : List (List Choice)) → product_with done (xs ++ ys) ≡ product_with (product_with done xs) ys
@@ -98,6 +98,3 @@ module _ {X : Type 0} (ch : X → List Choice) (wide : X → ℕ) where
   put_refused e done x rest whole most walk long =
       many_refused e done (x ∷ []) rest whole most walk
       (wider e (length (with_factor done (ch x))) (width done ch wide (x ∷ [])) (omega arith) (long_is_wide e (with_factor done (ch x)) long))
-
-  pub walk_end : (done : List Choice) (whole : List Choice) (most : ℕ) → Walk done [] whole most → (done ≡ whole) × (most ≤ MOST_CHOICES)
-  walk_end done whole most walk = (walk.same, walk.narrow (omega arith))

@@ -7,11 +7,11 @@ use Rattle.std.specs.List.{list_any}
 use Rattle.ppddl_model.specs.declared.tree.Effect.{Effect}
 use Rattle.ppddl_model.specs.Objects.{World, Binding}
 use Rattle.ground_model.specs.declared.limits.TheConstants.{MOST_CHOICES, MOST_DENOMINATOR}
-use Rattle.joint_choices.specs.Numbering.{Numbering}
-use Rattle.joint_choices.specs.Joint.{Joint, joint, den_of, charged_choices}
-use Rattle.joint_choices.specs.Limits.{widest, is_dear}
-use Rattle.choice_lists.specs.declared.refusal.JointRefusal.{JointRefusal}
-use Rattle.choice_lists.specs.declared.refusal.JointRefusal.TheVariants as refusal
+use Rattle.ground_meaning.specs.choices.Numbering.{Numbering}
+use Rattle.ground_meaning.specs.choices.Joint.{Joint, joint, den_of, charged_choices}
+use Rattle.ground_meaning.specs.choices.Limits.{widest, is_dear}
+use Rattle.outcome_dist.specs.declared.lists.refusal.JointRefusal.{JointRefusal}
+use Rattle.outcome_dist.specs.declared.lists.refusal.JointRefusal.TheVariants as refusal
 use Rattle.outcome_dist.specs.declared.choices.Choices.{Choices}
 
 abbrev pub joint_or_refusal : World → Numbering → Effect → Binding → ℕ → Result Joint JointRefusal

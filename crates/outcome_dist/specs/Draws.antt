@@ -13,11 +13,11 @@ use Rattle.ppddl_model.specs.Objects.{World, Binding}
 use Rattle.ppddl_model.specs.Denominator.{share}
 use Rattle.ground_model.specs.declared.action.Choice.{Choice}
 use Rattle.ground_model.specs.declared.limits.TheConstants.{MOST_CHOICES}
-use Rattle.joint_choices.specs.Numbering.{Numbering}
-use Rattle.joint_choices.specs.Joint.{scaled, merged, product_with, with_rest, den_of, choices}
-use Rattle.joint_choices.specs.Limits.{widest, widest_with, greatest}
-use Rattle.choice_lists.specs.declared.refusal.JointRefusal.{JointRefusal}
-use Rattle.choice_lists.specs.declared.refusal.JointRefusal.TheVariants.{Choices, Memory}
+use Rattle.ground_meaning.specs.choices.Numbering.{Numbering}
+use Rattle.ground_meaning.specs.choices.Joint.{scaled, merged, product_with, with_rest, den_of, choices}
+use Rattle.ground_meaning.specs.choices.Limits.{widest, widest_with, greatest}
+use Rattle.outcome_dist.specs.declared.lists.refusal.JointRefusal.{JointRefusal}
+use Rattle.outcome_dist.specs.declared.lists.refusal.JointRefusal.TheVariants.{Choices, Memory}
 
 abbrev pub IsWide : JointRefusal → ℕ → Type 0
 IsWide Choices k = MOST_CHOICES < k

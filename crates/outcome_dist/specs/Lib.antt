@@ -1,2 +1,4 @@
 pub mod Draws
 pub mod Answers
+pub mod lists
+pub mod conditions

@@ -1,16 +1,16 @@
 //! Joint choices within the limits.
 
-ghost use Rattle.ground_names.specs.Scopes.{binding_of};
-ghost use Rattle.ground_sizes.specs.Typed.{IsTyped};
-ghost use Rattle.ground_conditions.specs.Bindings.{world_of, numbering_of};
+ghost use Rattle.ground_terms.specs.terms.Scopes.{binding_of};
+ghost use Rattle.ground_terms.specs.sizes.Typed.{IsTyped};
+ghost use Rattle.outcome_dist.specs.conditions.Bindings.{world_of, numbering_of};
 ghost use Rattle.outcome_dist.specs.Answers.{Answers, joint_or_refusal};
 
 use crate::choices::Choices;
+use crate::conditions::Binding;
 use crate::drawing::draw;
-use choice_lists::{JointRefusal, common_divisor, narrowed};
-use ground_conditions::Binding;
+use crate::lists::{JointRefusal, common_divisor, narrowed};
 use ground_model::MOST_DENOMINATOR;
-use ground_sizes::denominator;
+use ground_terms::denominator;
 use ppddl_model::Effect;
 use std::alloc::Global;
 

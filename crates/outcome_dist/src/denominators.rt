@@ -1,15 +1,14 @@
 //! Denominators of `probabilistic` effects and of their branches.
 
-ghost use Rattle.std.specs.Prelude.{◌≡◌, ◌*◌, ◌/◌, map, IfOk};
-ghost use Rattle.exact_fraction.specs.Divisors.{lcm_of, common_multiple};
+ghost use Rattle.std.specs.Prelude.{◌≡◌, ◌*◌, ◌/◌, IfOk};
+ghost use Rattle.exact_fraction.specs.Divisors.{lcm_of};
 ghost use Rattle.ppddl_model.specs.declared.tree.Branch.{Branch};
-ghost use Rattle.ppddl_model.specs.Denominator.{share};
-ghost use Rattle.joint_choices.specs.Joint.{den_of};
-ghost use Rattle.ground_sizes.specs.Typed.{IsTyped};
+ghost use Rattle.ground_meaning.specs.choices.Joint.{den_of};
+ghost use Rattle.ground_terms.specs.sizes.Typed.{IsTyped};
 ghost use Rattle.outcome_dist.specs.Draws.{own_of, inner_of, factor_of};
 
 use exact_fraction::lcm_within;
-use ground_sizes::denominator;
+use ground_terms::denominator;
 use ppddl_model::{Branch, Effect};
 use std::alloc::AllocError;
 use type_table::TypeTable;

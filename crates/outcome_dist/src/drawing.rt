@@ -1,21 +1,20 @@
 //! The merged choices of an effect, form by form.
 
-ghost use Rattle.std.specs.Prelude.{◌≡◌, ◌≤◌, ◌∷◌, [], map, IfOk, IfErr};
+ghost use Rattle.std.specs.Prelude.{◌≡◌, ◌≤◌, ◌∷◌, [], IfOk, IfErr};
 ghost use Rattle.ppddl_model.specs.declared.tree.Effect.{Effect};
 ghost use Rattle.ppddl_model.specs.Objects.{bindings};
 ghost use Rattle.ground_model.specs.declared.limits.TheConstants.{MOST_CHOICES};
-ghost use Rattle.joint_choices.specs.Joint.{choices, idle};
-ghost use Rattle.joint_choices.specs.Limits.{widest};
-ghost use Rattle.ground_names.specs.Scopes.{binding_of};
-ghost use Rattle.ground_sizes.specs.Typed.{IsTyped};
-ghost use Rattle.ground_conditions.specs.Bindings.{world_of, numbering_of};
+ghost use Rattle.ground_meaning.specs.choices.Joint.{choices, idle};
+ghost use Rattle.ground_meaning.specs.choices.Limits.{widest};
+ghost use Rattle.ground_terms.specs.terms.Scopes.{binding_of};
+ghost use Rattle.ground_terms.specs.sizes.Typed.{IsTyped};
+ghost use Rattle.outcome_dist.specs.conditions.Bindings.{world_of, numbering_of};
 ghost use Rattle.outcome_dist.specs.Draws.{IsWide, drawn, width, branches_drawn, branches_width};
 
+use crate::conditions::{Binding, atom_numbers, ground_condition};
 use crate::denominators::{branch_factor, inner_denominator, own_denominator, times};
-use choice_lists::{Draft, JointRefusal, Merging, Product, guard_all};
-use ground_conditions::{Binding, atom_numbers, ground_condition};
-use ground_names::Scope;
-use ground_sizes::{count_bindings, objects_of};
+use crate::lists::{Draft, JointRefusal, Merging, Product, guard_all};
+use ground_terms::{Scope, count_bindings, objects_of};
 use ppddl_model::{Branch, Effect, Param};
 use std::alloc::{AllocError, Global};
 

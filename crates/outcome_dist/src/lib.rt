@@ -1,12 +1,15 @@
-//! The joint choices of an effect under a binding, within the limits.
+//! The joint choices of an effect under a binding, worked out in exact numbers, or the first limit
+//! against them.
 #![tactic(auto)]
 
 mod answering;
 mod choices;
+mod conditions;
 mod denominators;
 mod drawing;
+mod lists;
 
 pub use answering::joint;
-pub use choice_lists::JointRefusal;
 pub use choices::Choices;
-pub use ground_conditions::Binding;
+pub use conditions::{Binding, atom_numbers, ground_condition};
+pub use lists::{Draft, JointRefusal, common_divisor, multiply, narrowed};

@@ -1,5 +1,5 @@
 -- The statuses of requests that meet no fault.
-use Rattle.std.proofs.Common.{◌≡◌, ℕ, ◌⊎◌, inl, inr, Bool, List, refl, sym, ap, ◌∙◌, subst, arith, Option, Some, None, Result, Ok, Err}
+use Rattle.std.proofs.Common.{◌≡◌, ℕ, inl, inr, Bool, List, refl, sym, ap, ◌∙◌, subst, arith, Option, Some, None, Result, Ok, Err}
 use Rattle.std.specs.Prelude.{◌≢◌, Contains}
 use Rattle.std.specs.Borrow.{Bor}
 use Rattle.shelf_io.specs.Causes.{Rose}
@@ -17,15 +17,15 @@ use Rattle.plan_search.specs.Serving.{stop_of, IsServiceOf}
 use Rattle.policy_server.specs.declared.serve_end.ServeEnd.{ServeEnd}
 use Rattle.policy_server.specs.Replies.{Reply}
 use Rattle.policy_server.specs.Serving.{input}
-use Rattle.plan_stop.specs.declared.stop.Stop.{Stop}
-use Rattle.plan_stop.specs.declared.stop.Stop.TheVariants.{BadWords, ReadFailed, WriteFailed, NoMemory, Refused, NotAccepted, Limit}
-use Rattle.plan_stop.specs.Stop.{Ending, report_status, ending_status, status_of}
+use Rattle.plan_request.specs.declared.stop.Stop.{Stop}
+use Rattle.plan_request.specs.declared.stop.Stop.TheVariants.{BadWords, ReadFailed, WriteFailed, NoMemory, Refused, NotAccepted, Limit}
+use Rattle.plan_request.specs.stop.Stop.{Ending, ending_status, status_of}
 use Rattle.plan_sources.specs.Problems.{one_text, problem_of}
 use Rattle.plan_sources.specs.Sources.{certificate_in}
 use Rattle.plan_sources.specs.Laws.{IsOfTexts, TextsStopSo}
 use Rattle.plan_app.specs.Measuring.{line_sources}
 use Rattle.plan_app.specs.Asking.{Asks, AsksToSearch}
-use Rattle.plan_app.specs.Endings.{said_of, said_by, IsJudged, IsTooLongSo, Exchange, exchange, AnswersLine, AnswersCheck, AnswersSearch, AnswersSolve, reported, Lacks, Answers, EndsBehind, Faults, MayEndRequest, HasService, MayEndWords}
+use Rattle.plan_app.specs.Endings.{said_by, IsJudged, IsTooLongSo, Exchange, exchange, AnswersLine, AnswersCheck, AnswersSearch, AnswersSolve, reported, Lacks, Answers, EndsBehind, Faults, MayEndRequest, HasService, MayEndWords}
 use Rattle.plan_app.specs.Verdicts.{answers_to, IsAnswerTo}
 use Rattle.plan_app.proofs.Exchanges.{stops_by_fault, take_rose}
 use Rattle.plan_app.proofs.Verdict.{IsOfCertificate, certificate_stops, said_status, said_by_status}

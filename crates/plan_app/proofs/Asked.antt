@@ -1,7 +1,7 @@
 -- The parts of a request are in range.
 use Rattle.std.proofs.Common.{ℕ, List}
 use Rattle.std.specs.Borrow.{Bor}
-use Rattle.command_words.specs.Shown.{texts_of}
+use Rattle.plan_request.specs.words.Shown.{texts_of}
 use Rattle.plan_request.specs.Asked.{Sources, Solving, to_solve, to_check, to_serve, to_ground}
 use Rattle.plan_request.specs.Laws.{AreTerms, IsSolving, RequestsAreInRange}
 use Rattle.plan_app.specs.Asking.{Asks}

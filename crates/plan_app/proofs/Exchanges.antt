@@ -1,21 +1,21 @@
 -- What a server put, as a text; and which count rose where a fault stopped it.
-use Rattle.std.proofs.Common.{◌≡◌, ℕ, ◌+◌, ◌<◌, ◌≤◌, Bool, true, false, cond, List, [], ◌++◌, length, take, Option, Some, None, refl, sym, subst, arith, length-append, ◌⊎◌, inl, inr}
+use Rattle.std.proofs.Common.{◌≡◌, ℕ, ◌+◌, ◌≤◌, Bool, true, false, cond, List, [], ◌++◌, length, take, Option, Some, refl, sym, subst, arith, length-append, ◌⊎◌, inl, inr}
 use Rattle.std.specs.Io.KnownBytes.{Appends}
 use Rattle.std.proofs.Math.Seq.{take-append-add}
-use Rattle.std.proofs.KnownBytes.{Appends-nil, Appends-trans}
+use Rattle.std.proofs.KnownBytes.{Appends-trans}
 use Rattle.shelf_io.specs.Causes.{one_more, Rose}
 use Rattle.shelf_io.specs.Streams.{PutsPrefix}
 use Rattle.ground_model.specs.Ground.{Ground}
-use Rattle.plan_stop.specs.declared.stop.Stop.{Stop}
-use Rattle.plan_stop.specs.declared.stop.Stop.TheVariants.{ReadFailed, WriteFailed}
+use Rattle.plan_request.specs.declared.stop.Stop.{Stop}
+use Rattle.plan_request.specs.declared.stop.Stop.TheVariants.{ReadFailed, WriteFailed}
 use Rattle.plan_search.specs.Serving.{stop_of}
 use Rattle.policy_server.specs.declared.serve_end.ServeEnd.{ServeEnd}
 use Rattle.policy_server.specs.declared.serve_end.ServeEnd.TheVariants as ends
 use Rattle.policy_server.specs.declared.served.Served.{Served}
 use Rattle.policy_server.specs.Lines.{cut_of}
 use Rattle.policy_server.specs.Replies.{Reply, texts}
-use Rattle.policy_server.specs.Serving.{Input, due, is_read_fault, is_write_fault, IsFault, HasAnswered}
-use Rattle.serving_solver.specs.Served.{Streams, HasServed}
+use Rattle.policy_server.specs.Serving.{Input, due, is_read_fault, is_write_fault, IsFault}
+use Rattle.plan_search.specs.service.Served.{Streams, HasServed}
 use Rattle.plan_app.specs.Endings.{exchange, Answered}
 use Rattle.plan_app.specs.Putting.{CountsOn}
 

@@ -13,17 +13,17 @@ use Rattle.plan_search.specs.Serving.{stop_of, IsServiceOf, AnswersBehind, EndsS
 use Rattle.policy_server.specs.declared.served.Served.{Served}
 use Rattle.policy_server.specs.Replies.{Reply}
 use Rattle.policy_server.specs.Serving.{Input, input}
-use Rattle.serving_solver.specs.Served.{Streams, streams, HasServed, IsUnserved}
-use Rattle.plan_stop.specs.declared.report.Report.{Report}
-use Rattle.plan_stop.specs.declared.stop.Stop.{Stop}
-use Rattle.plan_stop.specs.declared.stop.Stop.TheVariants.{NoMemory, WriteFailed, Limit}
-use Rattle.plan_stop.specs.Stop.{Ending, status_of}
+use Rattle.plan_search.specs.service.Served.{Streams, streams, HasServed, IsUnserved}
+use Rattle.plan_request.specs.declared.stop.report.Report.{Report}
+use Rattle.plan_request.specs.declared.stop.Stop.{Stop}
+use Rattle.plan_request.specs.declared.stop.Stop.TheVariants.{NoMemory, WriteFailed, Limit}
+use Rattle.plan_request.specs.stop.Stop.{Ending, status_of}
 use Rattle.plan_sources.specs.Endings.{MayEnd, MayGive, IsFault, OnlyRead}
 use Rattle.plan_sources.specs.Problems.{text_count}
 use Rattle.plan_sources.specs.Sources.{LacksText, MayGiveProblem, certificate_in}
 use Rattle.plan_sources.specs.Laws.{TextsStopSo}
 use Rattle.plan_sources.proofs.Taking.{stops_whole, ends_whole, fault_since, fault_before}
-use Rattle.plan_app.specs.Endings.{said_by, IsJudged, reported, AnswersBench, HasProblem, Lacks, AnswersSearch, Answers, EndsBehind, MayEndRequest, OnlyWrites, LeavesForWords, CallsBehind}
+use Rattle.plan_app.specs.Endings.{said_by, IsJudged, AnswersBench, HasProblem, Lacks, AnswersSearch, Answers, EndsBehind, MayEndRequest, OnlyWrites, LeavesForWords, CallsBehind}
 use Rattle.plan_app.specs.Putting.{PutsAnswers}
 use Rattle.plan_app.proofs.Exchanges.{has_put, put_rose}
 

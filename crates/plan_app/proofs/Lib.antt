@@ -6,3 +6,4 @@ pub mod Verdict
 pub mod Answering
 pub mod Statuses
 pub mod Solved
+pub mod lemmas

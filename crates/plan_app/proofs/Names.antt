@@ -1,11 +1,11 @@
 -- The ground problem of texts has the names that its certificates spell.
-use Rattle.std.proofs.Common.{◌≡◌, ℕ, List, Result, Ok}
+use Rattle.std.proofs.Common.{◌≡◌, ℕ, List, Ok}
 use Rattle.std.proofs.lemmas.List.Elements.{All-contains_itself}
 use Rattle.shelf_io.specs.Shelf.{Told}
 use Rattle.certificate.specs.Names.{is_lower_name, IsNameList}
-use Rattle.closing_certificate.specs.Certificates.{HasNameLists}
+use Rattle.plan_report.specs.certificates.Certificates.{HasNameLists}
 use Rattle.ground_model.specs.Ground.{Ground}
-use Rattle.grounding.specs.Laws.{IsListOf, AreListsOf}
+use Rattle.ground_meaning.specs.refusals.Laws.{IsListOf, AreListsOf}
 use Rattle.plan_request.specs.Asked.{Sources}
 use Rattle.plan_request.specs.Laws.{AreTerms}
 use Rattle.plan_sources.specs.declared.texts.Texts.{Texts}

@@ -1,25 +1,25 @@
 -- What a search found that was reported, of the ground problem and of the task.
-use Rattle.std.proofs.Common.{◌≡◌, ◌≢◌, ℕ, ◌+◌, ◌*◌, ◌^◌, ◌<◌, ◌≤◌, ◌⊎◌, inl, inr, Bool, true, false, List, [], ◌++◌, length, refl, sym, ap, ◌∙◌, subst, arith, Option, Some, None, Result, Ok, Err}
+use Rattle.std.proofs.Common.{◌≡◌, ◌≢◌, ℕ, ◌+◌, ◌*◌, ◌^◌, ◌<◌, ◌≤◌, inl, inr, Bool, true, false, List, [], ◌++◌, length, refl, sym, ap, ◌∙◌, subst, arith, Option, Some, None, Result, Ok, Err}
 use Rattle.std.specs.Prelude.{◌↔◌, IsTrue}
 use Rattle.std.proofs.Math.Nat.{mul-le-mul_left}
 use Rattle.std.specs.Borrow.{Bor}
 use Rattle.std.specs.Io.KnownBytes.{Appends}
 use Rattle.shelf_io.specs.Shelf.{Told, Untold, Missing, Holds, written}
-use Rattle.sweep_levels.specs.Sweeps.{rounds_at}
+use Rattle.decision_process.specs.sweeps.Sweeps.{rounds_at}
 use Rattle.certificate.specs.Content.{Content, text_of, most_bytes}
-use Rattle.certificate_check.specs.Claims.{ground_certificate, IsBalancedFor}
+use Rattle.certificate_check.specs.Claims.{ground_certificate}
 use Rattle.decision_process.specs.Levels.{IsDepthWithin}
 use Rattle.decision_process.specs.Process.{Process, Start}
 use Rattle.decision_process.specs.Rounded.{plain_low, plain_high}
 use Rattle.ppddl_model.specs.declared.tree.Task.{Task}
 use Rattle.ppddl_model.specs.Laws.{WellFormedSums, ChancesAreProper, StartsAreProper}
 use Rattle.ppddl_model.specs.Steps.{Charges, process, starts, start_den}
-use Rattle.iteration_progress.specs.Width.{IsNarrow}
-use Rattle.iteration_progress.specs.Laws.{TaskIntervalNarrows}
+use Rattle.ground_meaning.specs.progress.Width.{IsNarrow}
+use Rattle.ground_meaning.specs.progress.Laws.{TaskIntervalNarrows}
 use Rattle.ground_model.specs.Ground.{Ground}
 use Rattle.ground_model.specs.Steps.{ground_process, ground_starts}
-use Rattle.ground_stands.specs.Laws.{SamePlain, SameDepth}
-use Rattle.task_certificates.specs.Laws.{BalanceIsCarried, TaskIsEnclosed}
+use Rattle.ground_meaning.specs.stands.Laws.{SamePlain, SameDepth}
+use Rattle.plan_app.specs.certificates.Laws.{BalanceIsCarried, TaskIsEnclosed}
 use Rattle.plan_request.specs.declared.effort.Effort.{Effort}
 use Rattle.plan_request.specs.declared.sizes.Sizes.{Sizes}
 use Rattle.plan_request.specs.Asked.{Sources, Solving, to_solve, to_serve, to_bench}
@@ -29,22 +29,22 @@ use Rattle.plan_report.specs.declared.ending.Ending.TheVariants.{Converged}
 use Rattle.plan_report.specs.Solved.{Solved, solve_text}
 use Rattle.plan_search.specs.Found.{IsFound}
 use Rattle.plan_search.specs.declared.answer.Answer.{Answer}
-use Rattle.plan_search.specs.Answers.{IsReport, IsAnswerOf}
+use Rattle.plan_search.specs.Answers.{IsAnswerOf}
 use Rattle.plan_search.specs.Serving.{stop_of, IsServiceOf, KeepsEach}
 use Rattle.policy_server.specs.declared.serve_end.ServeEnd.{ServeEnd}
 use Rattle.policy_server.specs.declared.served.Served.{Served}
 use Rattle.policy_server.specs.Replies.{Reply}
 use Rattle.policy_server.specs.Serving.{Input}
-use Rattle.plan_stop.specs.declared.stop.Stop.{Stop}
-use Rattle.plan_stop.specs.declared.stop.Stop.TheVariants.{BadWords, ReadFailed, WriteFailed, NoMemory, Refused, NotAccepted, Limit}
-use Rattle.plan_stop.specs.Stop.{Ending, report_status, report_text, ending_status, ending_text, status_of}
+use Rattle.plan_request.specs.declared.stop.Stop.{Stop}
+use Rattle.plan_request.specs.declared.stop.Stop.TheVariants.{BadWords, ReadFailed, WriteFailed, NoMemory, Refused, NotAccepted, Limit}
+use Rattle.plan_request.specs.stop.Stop.{Ending, report_status, report_text, ending_status, ending_text, status_of}
 use Rattle.plan_sources.specs.declared.texts.Texts.{Texts}
 use Rattle.plan_sources.specs.Problems.{one_text, problem_of}
-use Rattle.plan_sources.specs.Laws.{HoldsTexts, IsOfTexts, OneProblemIsTold, TextsStopSo, ProblemStands}
+use Rattle.plan_sources.specs.Laws.{IsOfTexts, OneProblemIsTold, TextsStopSo, ProblemStands}
 use Rattle.plan_app.specs.Asking.{Asks}
 use Rattle.plan_app.specs.Measuring.{line_sources, line_problem, bench_effort, bench_sizes, bench_line}
-use Rattle.plan_app.specs.Endings.{said_by, IsMeasured, exchange, Answered, AnswersLine, IsWritten, AnswersSearch, AnswersSolve, Answers, EndsBehind, HasService, MayEndAs}
-use Rattle.plan_app.specs.Verdicts.{TellsSearch, HasVerdict, HasReport, IsDecoded, IsAccepted}
+use Rattle.plan_app.specs.Endings.{said_by, IsMeasured, exchange, Answered, AnswersLine, IsWritten, AnswersSearch, AnswersSolve, EndsBehind, HasService, MayEndAs}
+use Rattle.plan_app.specs.Verdicts.{TellsSearch, HasVerdict, HasReport}
 use Rattle.plan_app.specs.Solutions.{IsAsNarrowAsPlain, Solves, PutsSolution, PutsService, PutsMeasure}
 use Rattle.plan_app.proofs.Exchanges.{stops_by_fault}
 use Rattle.plan_app.proofs.Statuses.{answered_so, request_ends, answers_of}

@@ -11,13 +11,13 @@ use Rattle.certificate_check.specs.Laws.{AcceptedIsBalanced}
 use Rattle.ppddl_model.specs.Laws.{WellFormedSums}
 use Rattle.ppddl_model.specs.declared.tree.Task.{Task}
 use Rattle.ground_model.specs.Ground.{Ground}
-use Rattle.task_certificates.specs.Laws.{BalanceIsCarried, TaskIsEnclosed, TaskPolicyEnds}
+use Rattle.plan_app.specs.certificates.Laws.{BalanceIsCarried, TaskIsEnclosed, TaskPolicyEnds}
 use Rattle.plan_request.specs.Asked.{Sources, Solving, Asked, to_solve, to_check, to_serve, to_ground, to_bench}
 use Rattle.plan_request.specs.Laws.{AreTerms}
-use Rattle.plan_stop.specs.declared.report.Report.TheVariants.{Done, GapLeft}
-use Rattle.plan_stop.specs.declared.stop.Stop.{Stop}
-use Rattle.plan_stop.specs.declared.stop.Stop.TheVariants.{BadWords, ReadFailed, WriteFailed, NoMemory, Refused, NotAccepted, Limit}
-use Rattle.plan_stop.specs.Stop.{Ending, ending_status, ending_text, status_of}
+use Rattle.plan_request.specs.declared.stop.report.Report.TheVariants.{Done, GapLeft}
+use Rattle.plan_request.specs.declared.stop.Stop.{Stop}
+use Rattle.plan_request.specs.declared.stop.Stop.TheVariants.{BadWords, ReadFailed, WriteFailed, NoMemory, Refused, NotAccepted, Limit}
+use Rattle.plan_request.specs.stop.Stop.{Ending, ending_status, ending_text, status_of}
 use Rattle.plan_search.specs.Serving.{stop_of}
 use Rattle.policy_server.specs.Replies.{Reply}
 use Rattle.policy_server.specs.Serving.{Input}
@@ -27,7 +27,7 @@ use Rattle.plan_sources.specs.Sources.{MayGiveProblem}
 use Rattle.plan_sources.specs.Laws.{OneProblemIsTold, TextsStopSo, ProblemStands}
 use Rattle.plan_app.specs.Asking.{asked_by, IsToServe, Asks, AsksNothing, AsksToServe}
 use Rattle.plan_app.specs.Endings.{Exchange, exchange, Lacks, Answers, EndsBehind, MayEndRequest, HasService, ServiceFor, MayEndWords, MayEndAs}
-use Rattle.plan_app.specs.Verdicts.{sources_of, TellsTexts, TellsGround, TellsCheck, HasVerdict, IsAnswerTo, IsRefused, IsLimited, IsGrounded, IsAccepted, IsRejected, MayBeTooLong, PutsProblem, PutsReport}
+use Rattle.plan_app.specs.Verdicts.{sources_of, TellsTexts, TellsGround, TellsCheck, HasVerdict, IsRefused, IsLimited, IsGrounded, IsAccepted, IsRejected, MayBeTooLong, PutsProblem, PutsReport}
 use Rattle.plan_app.specs.Putting.{PutsAnswers, PutsPart, IsSaid, SaysPut, SaysCutShort}
 use Rattle.plan_app.proofs.Exchanges.{prefix_behind, take_rose}
 use Rattle.plan_app.proofs.Verdict.{IsLongFor, Leads, SaysOfTexts, said_by_status, leads, service_led, answers_words, service_words, unwritten, text_verdict, ground_verdict, ground_reported, check_verdict, check_reported}

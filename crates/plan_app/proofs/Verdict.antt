@@ -2,7 +2,7 @@
 use Rattle.std.proofs.Common.{◌≡◌, ◌≢◌, ℕ, ◌⊎◌, inl, inr, Bool, true, false, List, refl, sym, ap, ◌∙◌, subst, arith, Option, Some, None, Result, Ok, Err}
 use Rattle.std.specs.Prelude.{◌↔◌}
 use Rattle.shelf_io.specs.Causes.{Rose}
-use Rattle.shelf_io.specs.Shelf.{Told, Holds, MayHold}
+use Rattle.shelf_io.specs.Shelf.{Told, Holds}
 use Rattle.certificate.specs.Content.{Content}
 use Rattle.certificate.specs.Laws.{TextsAreRead}
 use Rattle.certificate.specs.Reading.{read_of}
@@ -20,15 +20,15 @@ use Rattle.plan_request.specs.declared.effort.Effort.{Effort}
 use Rattle.plan_request.specs.declared.sizes.Sizes.{Sizes}
 use Rattle.plan_report.specs.Line.{line_text}
 use Rattle.plan_report.specs.Reports.{accepted_text, ground_text}
-use Rattle.plan_stop.specs.declared.stop.Stop.{Stop}
+use Rattle.plan_request.specs.declared.stop.Stop.{Stop}
 use Rattle.plan_search.specs.Answers.{IsAnswerOf, IsTooLong}
 use Rattle.plan_search.specs.Serving.{stop_of, IsServiceOf}
 use Rattle.plan_search.specs.declared.answer.Answer.{Answer}
 use Rattle.policy_server.specs.declared.serve_end.ServeEnd.{ServeEnd}
 use Rattle.policy_server.specs.Replies.{Reply}
-use Rattle.plan_stop.specs.declared.report.Report.TheVariants.{Done}
-use Rattle.plan_stop.specs.declared.stop.Stop.TheVariants.{BadWords, ReadFailed, WriteFailed, NoMemory, Refused, NotAccepted, Limit}
-use Rattle.plan_stop.specs.Stop.{Ending, report_status, ending_status, status_of, stop_of_certificate}
+use Rattle.plan_request.specs.declared.stop.report.Report.TheVariants.{Done}
+use Rattle.plan_request.specs.declared.stop.Stop.TheVariants.{BadWords, ReadFailed, WriteFailed, NoMemory, Refused, NotAccepted, Limit}
+use Rattle.plan_request.specs.stop.Stop.{Ending, report_status, ending_status, status_of, stop_of_certificate}
 use Rattle.plan_sources.specs.declared.texts.Texts.{Texts}
 use Rattle.plan_sources.specs.Endings.{MayGive}
 use Rattle.plan_sources.specs.Problems.{one_text, stopped, problem_of}

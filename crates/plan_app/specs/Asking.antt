@@ -8,7 +8,7 @@
 --                             the same of words
 use Rattle.std.specs.Prelude.{◌≡◌, ◌⊎◌, ℕ, List, Option, Some, None}
 use Rattle.std.specs.Borrow.{Bor}
-use Rattle.command_words.specs.Shown.{texts_of}
+use Rattle.plan_request.specs.words.Shown.{texts_of}
 use Rattle.plan_request.specs.Asked.{Solving, Asked, to_solve, to_serve, request_of}
 
 abbrev pub asked_by : List (Bor (List ℕ)) → Option Asked

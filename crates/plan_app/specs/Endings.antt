@@ -46,7 +46,7 @@ use Rattle.ground_model.specs.Ground.{Ground}
 use Rattle.policy_server.specs.declared.served.Served.{Served}
 use Rattle.policy_server.specs.Replies.{Reply, FollowEach}
 use Rattle.policy_server.specs.Serving.{Input, HasAnswered}
-use Rattle.serving_solver.specs.Served.{IsSound}
+use Rattle.plan_search.specs.service.Served.{IsSound}
 use Rattle.plan_request.specs.declared.effort.Effort.{Effort}
 use Rattle.plan_request.specs.declared.sizes.Sizes.{Sizes}
 use Rattle.plan_request.specs.Asked.{Sources, Solving, Asked, to_solve, to_check, to_serve, to_ground, to_bench}
@@ -55,11 +55,11 @@ use Rattle.plan_search.specs.declared.answer.Answer.{Answer}
 use Rattle.plan_search.specs.declared.measured.Measured.{Measured}
 use Rattle.plan_search.specs.Answers.{IsAnswerOf, IsMeasuredOf, IsTooLong}
 use Rattle.plan_search.specs.Serving.{stop_of, IsServiceOf}
-use Rattle.plan_stop.specs.declared.report.Report.{Report}
-use Rattle.plan_stop.specs.declared.report.Report.TheVariants.{Done, GapLeft}
-use Rattle.plan_stop.specs.declared.stop.Stop.{Stop}
-use Rattle.plan_stop.specs.declared.stop.Stop.TheVariants.{BadWords, WriteFailed, NoMemory, NotAccepted}
-use Rattle.plan_stop.specs.Stop.{Ending, ending_status, ending_text}
+use Rattle.plan_request.specs.declared.stop.report.Report.{Report}
+use Rattle.plan_request.specs.declared.stop.report.Report.TheVariants.{Done, GapLeft}
+use Rattle.plan_request.specs.declared.stop.Stop.{Stop}
+use Rattle.plan_request.specs.declared.stop.Stop.TheVariants.{BadWords, WriteFailed, NoMemory, NotAccepted}
+use Rattle.plan_request.specs.stop.Stop.{Ending, ending_status, ending_text}
 use Rattle.plan_sources.specs.Endings.{MayEnd, MayGive, IsFault, OnlyRead}
 use Rattle.plan_sources.specs.Problems.{text_count}
 use Rattle.plan_sources.specs.Sources.{LacksText, MayGiveProblem, certificate_in}

@@ -1,13 +1,13 @@
 -- Worked examples, which compute: what is said of a certificate and of a search, and what stops a run behind a server.
-use Rattle.std.specs.Prelude.{◌≡◌, true, false, [], ◌∷◌, Some, None, Ok, Err, refl}
+use Rattle.std.specs.Prelude.{◌≡◌, true, false, [], Some, None, Ok, Err, refl}
 use Rattle.certificate.specs.Content.{Content}
 use Rattle.certificate_check.specs.declared.verdict.Verdict.TheVariants.{Accepted, Lower, Ends}
-use Rattle.plan_stop.specs.declared.report.Report.TheVariants.{Done}
-use Rattle.plan_stop.specs.declared.stop.Stop.TheVariants.{ReadFailed, NotAccepted}
+use Rattle.plan_request.specs.declared.stop.report.Report.TheVariants.{Done}
+use Rattle.plan_request.specs.declared.stop.Stop.TheVariants.{ReadFailed, NotAccepted}
 use Rattle.plan_report.specs.Reports.{accepted_text}
 use Rattle.plan_search.specs.Serving.{stop_of}
 use Rattle.policy_server.specs.declared.serve_end.ServeEnd.TheVariants as ends
-use Rattle.plan_stop.specs.Stop.{ending_status}
+use Rattle.plan_request.specs.stop.Stop.{ending_status}
 use Rattle.plan_app.specs.Endings.{said_of, said_by}
 
 a_failed_read_stops_behind_a_server : stop_of ends.ReadFault ≡ Some ReadFailed

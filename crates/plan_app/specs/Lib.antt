@@ -5,3 +5,4 @@ pub mod Verdicts
 pub mod Solutions
 pub mod Putting
 pub mod Examples
+pub mod certificates

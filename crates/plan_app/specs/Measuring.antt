@@ -11,7 +11,7 @@ use Rattle.plan_request.specs.declared.effort.Effort.{Effort}
 use Rattle.plan_request.specs.declared.sizes.Sizes.{Sizes}
 use Rattle.plan_request.specs.Asked.{Sources}
 use Rattle.plan_report.specs.Line.{line_text}
-use Rattle.plan_stop.specs.declared.stop.Stop.{Stop}
+use Rattle.plan_request.specs.declared.stop.Stop.{Stop}
 use Rattle.plan_sources.specs.Problems.{one_text, problem_of}
 
 abbrev pub line_sources : Sources

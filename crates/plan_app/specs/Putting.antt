@@ -16,9 +16,9 @@ use Rattle.shelf_io.specs.Shelf.{Told}
 use Rattle.shelf_io.specs.Streams.{PutsPrefix}
 use Rattle.policy_server.specs.Serving.{Input}
 use Rattle.plan_request.specs.Asked.{Asked}
-use Rattle.plan_stop.specs.declared.status.TheConstants.{WRITE_FAILED}
-use Rattle.plan_stop.specs.declared.stop.Stop.TheVariants.{NoMemory}
-use Rattle.plan_stop.specs.Stop.{Ending, ending_status, ending_text}
+use Rattle.plan_request.specs.declared.stop.status.TheConstants.{WRITE_FAILED}
+use Rattle.plan_request.specs.declared.stop.Stop.TheVariants.{NoMemory}
+use Rattle.plan_request.specs.stop.Stop.{Ending, ending_status, ending_text}
 use Rattle.plan_app.specs.Endings.{exchange, MayEndWords}
 
 pub record PutsAnswers {S : Type 0} (held : S → List ℕ → Told) (reads writes : S → ℕ) (old new : S) (from to : Input)

@@ -20,7 +20,7 @@
 use Rattle.std.specs.Prelude.{◌≡◌, ◌↔◌, ℕ, ◌+◌, ◌*◌, ◌<◌, ◌≤◌, List, ◌++◌, Option, None, Ok}
 use Rattle.std.specs.Io.KnownBytes.{Appends}
 use Rattle.shelf_io.specs.Shelf.{Told, Holds}
-use Rattle.sweep_levels.specs.Sweeps.{rounds_at}
+use Rattle.decision_process.specs.sweeps.Sweeps.{rounds_at}
 use Rattle.certificate.specs.Content.{Content, text_of}
 use Rattle.certificate_check.specs.Claims.{ground_certificate}
 use Rattle.decision_process.specs.Enclosing.{Encloses}
@@ -30,10 +30,10 @@ use Rattle.decision_process.specs.Readings.{act, IsBalancedCertificate}
 use Rattle.decision_process.specs.Rounded.{plain_low, plain_high}
 use Rattle.ppddl_model.specs.State.{same_state}
 use Rattle.ppddl_model.specs.Steps.{process, starts, start_den, least_step_cost}
-use Rattle.iteration_progress.specs.Width.{IsNarrow}
+use Rattle.ground_meaning.specs.progress.Width.{IsNarrow}
 use Rattle.ground_model.specs.Ground.{Ground}
 use Rattle.ground_model.specs.Steps.{ground_process, ground_starts}
-use Rattle.task_certificates.specs.Carried.{task_certificate}
+use Rattle.plan_app.specs.certificates.Carried.{task_certificate}
 use Rattle.plan_request.specs.declared.effort.Effort.{Effort}
 use Rattle.plan_request.specs.declared.sizes.Sizes.{Sizes}
 use Rattle.plan_request.specs.Asked.{Sources, Solving}
@@ -43,7 +43,7 @@ use Rattle.plan_search.specs.Serving.{stop_of, KeepsEach}
 use Rattle.policy_server.specs.declared.served.Served.{Served}
 use Rattle.policy_server.specs.Replies.{Reply}
 use Rattle.policy_server.specs.Serving.{Input}
-use Rattle.plan_stop.specs.declared.status.TheConstants.{DONE}
+use Rattle.plan_request.specs.declared.stop.status.TheConstants.{DONE}
 use Rattle.plan_sources.specs.declared.texts.Texts.{Texts}
 use Rattle.plan_sources.specs.Problems.{one_text, problem_of}
 use Rattle.plan_sources.specs.Laws.{StandsForTexts}

@@ -29,13 +29,13 @@ use Rattle.ppddl_model.specs.declared.refusal.TextCode.{TextCode}
 use Rattle.ppddl_model.specs.State.{State, same_state}
 use Rattle.ppddl_model.specs.Steps.{process, starts, start_den, step_den, least_step_cost}
 use Rattle.ground_model.specs.Ground.{Ground}
-use Rattle.task_certificates.specs.Carried.{task_certificate}
+use Rattle.plan_app.specs.certificates.Carried.{task_certificate}
 use Rattle.plan_request.specs.Asked.{Sources, Solving, Asked, to_solve, to_check, to_serve, to_ground, to_bench}
 use Rattle.plan_report.specs.Reports.{accepted_text, ground_text}
 use Rattle.plan_search.specs.Answers.{IsTooLong}
-use Rattle.plan_stop.specs.declared.status.TheConstants.{DONE, GAP_LEFT, READ_FAILED, WRITE_FAILED, NO_MEMORY, REFUSED, NOT_ACCEPTED, LIMIT}
-use Rattle.plan_stop.specs.declared.stop.Stop.{Stop}
-use Rattle.plan_stop.specs.declared.stop.Stop.TheVariants.{Refused, Limit}
+use Rattle.plan_request.specs.declared.stop.status.TheConstants.{DONE, GAP_LEFT, READ_FAILED, WRITE_FAILED, NO_MEMORY, REFUSED, NOT_ACCEPTED, LIMIT}
+use Rattle.plan_request.specs.declared.stop.Stop.{Stop}
+use Rattle.plan_request.specs.declared.stop.Stop.TheVariants.{Refused, Limit}
 use Rattle.plan_sources.specs.declared.texts.Texts.{Texts}
 use Rattle.plan_sources.specs.Problems.{problem_of}
 use Rattle.plan_sources.specs.Laws.{HoldsTexts, StandsForTexts}

@@ -1,6 +1,6 @@
 //! `bench`.
 
-ghost use Rattle.std.specs.Prelude.{◌≡◌, ◌≤◌, ◌<◌, ◌^◌, ◌++◌, IfOk};
+ghost use Rattle.std.specs.Prelude.{◌≡◌, ◌≤◌, ◌<◌, ◌++◌, IfOk};
 ghost use Rattle.plan_sources.specs.Endings.{MayEnd};
 ghost use Rattle.plan_app.specs.Endings.{AnswersBench};
 ghost use Rattle.plan_app.specs.Measuring.{bench_effort, bench_sizes, bench_line};
@@ -8,10 +8,9 @@ ghost use Rattle.plan_app.specs.Measuring.{bench_effort, bench_sizes, bench_line
 use crate::solving::said;
 use plain_list::Bytes;
 use plan_report::line_problem;
-use plan_request::{Effort, Sizes, Sources};
+use plan_request::{Effort, Report, Sizes, Sources, Stop};
 use plan_search::measure;
 use plan_sources::{problem_of_text, source_laws};
-use plan_stop::{Report, Stop};
 use shelf_io::Gate;
 use std::alloc::{AllocError, Global};
 use std::thread::Threads;

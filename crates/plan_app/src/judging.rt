@@ -8,7 +8,7 @@ use certificate::Certificate;
 use certificate_check::check;
 use ground_model::GroundProblem;
 use plan_report::check_report;
-use plan_stop::{Report, Stop};
+use plan_request::{Report, Stop};
 use std::alloc::Global;
 
 /// The report of a certificate that is balanced for the problem, or the first condition that fails.

@@ -4,10 +4,10 @@ ghost use Rattle.std.specs.Prelude.{◌≡◌, ◌≢◌, ◌⊎◌, ◌↔◌, 
 ghost use Rattle.std.specs.Io.KnownBytes.{Appends};
 ghost use Rattle.shelf_io.specs.Causes.{Rose};
 ghost use Rattle.shelf_io.specs.Streams.{PutsPrefix};
-ghost use Rattle.plan_stop.specs.declared.status.TheConstants.{DONE, BAD_WORDS, READ_FAILED};
-ghost use Rattle.plan_stop.specs.declared.status.TheConstants.{WRITE_FAILED, NO_MEMORY, REFUSED};
-ghost use Rattle.plan_stop.specs.declared.status.TheConstants.{NOT_ACCEPTED, LIMIT};
-ghost use Rattle.plan_stop.specs.declared.stop.Stop.TheVariants.{WriteFailed};
+ghost use Rattle.plan_request.specs.declared.stop.status.TheConstants.{DONE, BAD_WORDS, READ_FAILED};
+ghost use Rattle.plan_request.specs.declared.stop.status.TheConstants.{WRITE_FAILED, NO_MEMORY, REFUSED};
+ghost use Rattle.plan_request.specs.declared.stop.status.TheConstants.{NOT_ACCEPTED, LIMIT};
+ghost use Rattle.plan_request.specs.declared.stop.Stop.TheVariants.{WriteFailed};
 ghost use Rattle.policy_server.specs.Serving.{input};
 ghost use Rattle.plan_request.specs.Asked.{Asked, Sources, Solving, to_solve, to_serve, to_bench};
 ghost use Rattle.plan_sources.specs.declared.texts.Texts.{Texts};
@@ -20,19 +20,17 @@ ghost use Rattle.plan_app.specs.Verdicts.{MayBeTooLong, PutsProblem, PutsReport}
 ghost use Rattle.plan_app.specs.Solutions.{PutsSolution, PutsService, PutsMeasure};
 ghost use Rattle.plan_app.specs.Putting.{PutsPart, SaysPut, SaysCutShort};
 
+use crate::certificates::task_certificate_laws;
 use crate::commands::report_of;
 use certificate::text_laws;
 use certificate_check::check_laws;
-use ground_stands::{same_level_laws, same_value_laws};
-use iteration_progress::task_progress_laws;
-use plan_request::request_laws;
+use ground_meaning::{same_level_laws, same_value_laws, task_progress_laws};
+use plan_request::{NO_MEMORY, Report, Stop, WRITE_FAILED, request_laws};
 use plan_sources::source_laws;
-use plan_stop::{NO_MEMORY, Report, Stop, WRITE_FAILED};
 use ppddl_model::task_laws;
 use shelf_io::{Gate, Shelf, Sink, Source, put_all};
 use std::alloc::Global;
 use std::thread::Threads;
-use task_certificates::task_certificate_laws;
 
 /// Runs the program with the words behind its name, and answers its status.
 ///

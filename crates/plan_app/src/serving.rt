@@ -6,14 +6,13 @@ ghost use Rattle.policy_server.specs.Serving.{input};
 ghost use Rattle.plan_request.specs.Asked.{to_serve};
 ghost use Rattle.plan_request.specs.Laws.{IsSolving};
 ghost use Rattle.plan_request.specs.Shown.{shown_solving};
-ghost use Rattle.plan_stop.specs.declared.stop.Stop.TheVariants.{WriteFailed};
+ghost use Rattle.plan_request.specs.declared.stop.Stop.TheVariants.{WriteFailed};
 ghost use Rattle.plan_app.specs.Endings.{CallsFor, OnlyWrites};
 ghost use Rattle.plan_app.specs.Putting.{PutsAnswers, CountsOn};
 
 use crate::solving::write;
-use plan_request::Solving;
+use plan_request::{Report, Solving, Stop};
 use plan_sources::{problem_of, source_laws};
-use plan_stop::{Report, Stop};
 use shelf_io::{Gate, Shelf, Sink, Source};
 use std::alloc::Global;
 use std::thread::Threads;

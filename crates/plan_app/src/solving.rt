@@ -6,14 +6,13 @@ ghost use Rattle.shelf_io.specs.Shelf.{written};
 ghost use Rattle.plan_request.specs.Asked.{to_solve};
 ghost use Rattle.plan_request.specs.Laws.{IsSolving};
 ghost use Rattle.plan_request.specs.Shown.{shown_solving};
-ghost use Rattle.plan_stop.specs.declared.stop.Stop.TheVariants.{NoMemory, WriteFailed};
+ghost use Rattle.plan_request.specs.declared.stop.Stop.TheVariants.{NoMemory, WriteFailed};
 ghost use Rattle.plan_app.specs.Endings.{MayEndRequest, CallsFor, OnlyWrites, said_by};
 
 use plain_list::Bytes;
-use plan_request::Solving;
+use plan_request::{Report, Solving, Stop};
 use plan_search::Answer;
 use plan_sources::{problem_of, source_laws};
-use plan_stop::{Report, Stop};
 use shelf_io::{Gate, Shelf, WriteFault};
 use std::alloc::Global;
 use std::thread::Threads;

@@ -5,16 +5,16 @@ use Rattle.std.specs.List.{flat_map}
 use Rattle.std.proofs.lemmas.Option.{slice_get_within}
 use Rattle.plain_list.proofs.Members.{Contains-first, Contains-later}
 use Rattle.fixed_round.specs.Words.{value_of}
-use Rattle.decision_process.specs.Readings.{Row, RowAct, GivesUp, AtGoal, Takes, action_of, row_at, low, high, act, IsMarked}
+use Rattle.decision_process.specs.Readings.{Row, RowAct, GivesUp, AtGoal, Takes, action_of, low, high, act, IsMarked}
 use Rattle.ground_model.specs.declared.action.GroundAction.{GroundAction}
 use Rattle.ground_model.specs.declared.start.Start.{Start}
 use Rattle.ground_model.specs.Packed.{State, same_state}
 use Rattle.ground_model.specs.Ground.{Ground}
 use Rattle.ground_model.specs.Steps.{ground_process}
 use Rattle.bound_core.specs.declared.image.ImageRow.{ImageRow}
-use Rattle.closing_bounds.specs.Closing.{IsClosing, IsRowAt, HasStartsFirst, act_in, closing_row, closing_rows}
-use Rattle.closing_bounds.proofs.Reading.{row_read, low_read, high_read}
-use Rattle.closing_bounds.proofs.Adding.{first_row, row_there}
+use Rattle.bound_core.specs.ends.Closing.{IsClosing, IsRowAt, HasStartsFirst, act_in, closing_row, closing_rows}
+use Rattle.bound_core.proofs.lemmas.ends.Reading.{row_read, low_read, high_read}
+use Rattle.bound_core.proofs.lemmas.ends.Adding.{first_row, row_there}
 use Rattle.plan_report.specs.Reports.{counted_line, interval_line}
 use Rattle.plan_report.specs.Solved.{ending_line, act_text, known_line, shown_act, solved_line}
 use Rattle.plan_report.specs.Laws.{AgreeAt, ReportsAgree}

@@ -2,7 +2,7 @@
 use Rattle.std.specs.Prelude.{◌≡◌, ℕ, List, [], ◌∷◌, ◌++◌, codes}
 use Rattle.std.specs.Fmt.{digits}
 use Rattle.std.proofs.Common.{refl}
-use Rattle.decision_process.specs.Readings.{Row, AtGoal, GivesUp, Takes}
+use Rattle.decision_process.specs.Readings.{Row, AtGoal, Takes}
 use Rattle.ground_model.specs.Coin.{coin, heads, tails}
 use Rattle.ground_model.specs.Ground.{Ground}
 use Rattle.ground_model.specs.Packed.{State}

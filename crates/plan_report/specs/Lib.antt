@@ -5,3 +5,4 @@ pub mod StartRows
 pub mod Laws
 pub mod CoinSolved
 pub mod Line
+pub mod certificates

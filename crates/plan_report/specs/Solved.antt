@@ -24,7 +24,7 @@ use Rattle.ground_model.specs.Ground.{Ground}
 use Rattle.ground_model.specs.Steps.{ground_process}
 use Rattle.ground_step.specs.Atoms.{true_atoms}
 use Rattle.bound_core.specs.declared.image.ImageRow.{ImageRow}
-use Rattle.closing_bounds.specs.Ends.{closing_low, closing_high}
+use Rattle.bound_core.specs.ends.Ends.{closing_low, closing_high}
 use Rattle.plan_report.specs.declared.ending.Ending.{Ending}
 use Rattle.plan_report.specs.declared.ending.Ending.TheVariants.{Converged, Budget, TableFull}
 use Rattle.plan_report.specs.Units.{units}

@@ -8,7 +8,7 @@ use Rattle.ground_model.specs.declared.action.GroundAction.{GroundAction}
 use Rattle.ground_model.specs.declared.start.Start.{Start}
 use Rattle.ground_model.specs.Ground.{Ground}
 use Rattle.bound_core.specs.declared.image.ImageRow.{ImageRow}
-use Rattle.closing_bounds.specs.Closing.{act_in}
+use Rattle.bound_core.specs.ends.Closing.{act_in}
 use Rattle.plan_report.specs.Solved.{action_text, known_line}
 
 abbrev pub row_act_text : List GroundAction → RowAct ℕ → List ℕ

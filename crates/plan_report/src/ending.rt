@@ -3,7 +3,7 @@
 ghost use Rattle.std.specs.Prelude.{◌≡◌};
 ghost use Rattle.plan_report.specs.Solved.{ending_of};
 
-use closing_bounds::Ends;
+use bound_core::Ends;
 
 /// How a search ends.
 #[derive(Clone, Copy, Debug, PartialEq, Eq)]

@@ -6,7 +6,7 @@ ghost use Rattle.plan_report.specs.Reports.{line, start_line, choice_line};
 ghost use Rattle.plan_report.specs.Reports.{action_lines, ground_text};
 
 use crate::atoms::{push_atoms, push_true_atoms};
-use crate::pieces::{push_counted, push_fraction, push_numbered, push_units};
+use crate::pieces::{push_counted, push_fraction, push_units};
 use ground_model::{Choice, GroundAction, GroundProblem, Start, Text};
 use plain_list::Bytes;
 use std::alloc::{AllocError, Global};

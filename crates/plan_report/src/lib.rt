@@ -1,9 +1,10 @@
-//! What the program prints, byte for byte: amounts in units, the reports of commands, and the problem that
-//! measures it.
+//! What the program prints, byte for byte, and the certificate of what is known when a search has
+//! ended.
 #![tactic(auto)]
 
 mod accepted;
 mod atoms;
+mod certificates;
 mod ending;
 mod grounded;
 mod laws;
@@ -13,12 +14,10 @@ mod solved;
 mod units;
 
 pub use accepted::check_report;
+pub use certificates::certificate_of;
 pub use ending::Ending;
 pub use grounded::ground_report;
 pub use laws::report_laws;
 pub use line::line_problem;
 pub use solved::solve_report;
 pub use units::put_units;
-
-#[cfg(test)]
-mod tests;

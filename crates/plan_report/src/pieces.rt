@@ -1,6 +1,6 @@
 //! Pieces of lines.
 
-ghost use Rattle.std.specs.Prelude.{◌≡◌, ◌++◌, codes, decimal, OnOk};
+ghost use Rattle.std.specs.Prelude.{◌≡◌, ◌++◌, decimal, OnOk};
 ghost use Rattle.plan_report.specs.Units.{units};
 ghost use Rattle.plan_report.specs.Reports.{counted_line, fraction_text, interval_line};
 

@@ -1,8 +1,8 @@
 //! The report of a search that has ended.
 
-ghost use Rattle.std.specs.Prelude.{◌≡◌, ◌++◌, ◌*◌, ◌<◌, ◌^◌, length, codes, IfOk, OnOk};
+ghost use Rattle.std.specs.Prelude.{◌≡◌, ◌++◌, ◌*◌, ◌<◌, ◌^◌, length, IfOk, OnOk};
 ghost use Rattle.std.specs.List.{flat_map};
-ghost use Rattle.closing_bounds.specs.Closing.{IsClosing, HasStartsFirst, act_in, closing_rows};
+ghost use Rattle.bound_core.specs.ends.Closing.{IsClosing, HasStartsFirst, act_in, closing_rows};
 ghost use Rattle.plan_report.specs.Solved.{ending_line, action_text, solved_line};
 ghost use Rattle.plan_report.specs.Solved.{solve_text, solved_of};
 ghost use Rattle.plan_report.specs.StartRows.{row_act_text, row_line};
@@ -10,8 +10,7 @@ ghost use Rattle.plan_report.specs.StartRows.{row_act_text, row_line};
 use crate::atoms::push_true_atoms;
 use crate::ending::{Ending, ending_of};
 use crate::pieces::{push_counted, push_fraction, push_interval, push_units};
-use bound_core::{AT_GOAL, GIVE_UP, Image, ImageRow};
-use closing_bounds::ends_of;
+use bound_core::{AT_GOAL, GIVE_UP, Image, ImageRow, ends_of};
 use fixed_round::UpperWord;
 use ground_model::{GroundAction, GroundProblem, Start};
 use plain_list::Bytes;

@@ -3,11 +3,11 @@ use Rattle.std.proofs.Common.{◌≡◌, refl, ap, subst, inl, inr, List, [], �
 use Rattle.std.specs.Prelude.{find, codes, nat_eq, option_map}
 use Rattle.std.proofs.lemmas.Option.{option_and_then_some, cond_some}
 use Rattle.std.specs.Str.{bytes_eq}
-use Rattle.command_words.specs.Words.{Text, Item, positionals_of, read}
-use Rattle.command_words.specs.Table.{Form, forms, run_options, solve_form, check_form, serve_form, ground_form, bench_form}
-use Rattle.command_words.specs.Scans.{behind_name, formed, if_counted}
-use Rattle.command_words.specs.Parses.{HasValues}
-use Rattle.command_words.specs.declared.parsing.Parsed.{Parsed}
+use Rattle.plan_request.specs.words.Words.{Text, Item, positionals_of, read}
+use Rattle.plan_request.specs.words.Table.{Form, forms, run_options, solve_form, check_form, serve_form, ground_form, bench_form}
+use Rattle.plan_request.specs.words.Scans.{behind_name, formed, if_counted}
+use Rattle.plan_request.specs.words.Parses.{HasValues}
+use Rattle.plan_request.specs.declared.words.parsing.Parsed.{Parsed}
 use Rattle.plan_request.specs.declared.command.Command.{Command}
 use Rattle.plan_request.specs.declared.command.Command.TheVariants.{Solve, Check, Serve, Ground, Bench}
 use Rattle.plan_request.specs.Commands.{command_named}

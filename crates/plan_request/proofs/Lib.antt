@@ -3,3 +3,4 @@ pub mod Parsing
 pub mod Ranges
 pub mod Found
 pub mod Requests
+pub mod lemmas

@@ -5,8 +5,8 @@ use Rattle.std.specs.Str.Parse.{digits_value}
 use Rattle.std.proofs.lemmas.Bool.{leb-true, ltb-false}
 use Rattle.exact_fraction.specs.Numbers.{Ratio, is_numeral, amount_from, decimal_of, micro_units}
 use Rattle.exact_fraction.specs.declared.refusal.NumberRefusal.TheVariants.{TooManyDigits, OutOfRange}
-use Rattle.command_words.specs.Scans.{formed}
-use Rattle.command_words.specs.Words.{Text}
+use Rattle.plan_request.specs.words.Scans.{formed}
+use Rattle.plan_request.specs.words.Words.{Text}
 use Rattle.plan_request.specs.Numbers.{◌>>=◌, whole, amount, at_least, unless_given}
 use Rattle.plan_request.specs.Commands.{command_named}
 use Rattle.plan_request.specs.declared.command.Command.{Command}

@@ -1,11 +1,11 @@
 -- The request of words, by what their parse answers.
 use Rattle.std.proofs.Common.{◌≡◌, sym, ap, ◌∙◌, List, Some, None}
 use Rattle.std.specs.Prelude.{option_and_then}
-use Rattle.command_words.specs.Words.{Text, Item}
-use Rattle.command_words.specs.Table.{Form}
-use Rattle.command_words.specs.Parses.{Answers}
-use Rattle.command_words.specs.Shown.{shown_form}
-use Rattle.command_words.specs.declared.parsing.Parsed.{Parsed}
+use Rattle.plan_request.specs.words.Words.{Text, Item}
+use Rattle.plan_request.specs.words.Table.{Form}
+use Rattle.plan_request.specs.words.Parses.{Answers}
+use Rattle.plan_request.specs.words.Shown.{shown_form}
+use Rattle.plan_request.specs.declared.words.parsing.Parsed.{Parsed}
 use Rattle.plan_request.specs.Asked.{asked_by, given_in, request_of}
 use Rattle.plan_request.specs.Shown.{given_by}
 use Rattle.plan_request.proofs.Found.{found_asked}

@@ -11,9 +11,9 @@
 -- Amounts are in micro-units, a millionth of a unit.
 use Rattle.std.specs.Prelude.{ℕ, ◌-◌, ◌^◌, min, List, Option, Some, None, option_map, position, slice_get, codes}
 use Rattle.std.specs.Str.{bytes_eq}
-use Rattle.command_words.specs.Words.{Text, Item, positionals_of, value_of}
-use Rattle.command_words.specs.Table.{Form}
-use Rattle.command_words.specs.Scans.{formed}
+use Rattle.plan_request.specs.words.Words.{Text, Item, positionals_of, value_of}
+use Rattle.plan_request.specs.words.Table.{Form}
+use Rattle.plan_request.specs.words.Scans.{formed}
 use Rattle.plan_request.specs.declared.command.Command.{Command}
 use Rattle.plan_request.specs.declared.command.Command.TheVariants.{Solve, Check, Serve, Ground, Bench}
 use Rattle.plan_request.specs.declared.effort.Effort.{Effort}

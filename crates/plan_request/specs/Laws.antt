@@ -3,7 +3,7 @@
 --     IsInRange q                           so are all of the request
 --     RequestsAreInRange                    every request is so
 use Rattle.std.specs.Prelude.{◌≡◌, ℕ, ◌<◌, ◌≤◌, ◌^◌, List, Some, IfSome}
-use Rattle.command_words.specs.Words.{Text}
+use Rattle.plan_request.specs.words.Words.{Text}
 use Rattle.plan_request.specs.declared.effort.Effort.{Effort}
 use Rattle.plan_request.specs.declared.sizes.Sizes.{Sizes}
 use Rattle.plan_request.specs.Asked.{Sources, Solving, Asked, to_solve, to_check, to_serve, to_ground, to_bench, request_of}

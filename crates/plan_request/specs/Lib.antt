@@ -4,3 +4,5 @@ pub mod Asked
 pub mod Shown
 pub mod Laws
 pub mod Examples
+pub mod words
+pub mod stop

@@ -1,7 +1,7 @@
 -- What contracts see of the values of the code.
 use Rattle.std.specs.Prelude.{option_map}
-use Rattle.command_words.specs.declared.parsing.Parsed.{Parsed}
-use Rattle.command_words.specs.Parses.{value_in}
+use Rattle.plan_request.specs.declared.words.parsing.Parsed.{Parsed}
+use Rattle.plan_request.specs.words.Parses.{value_in}
 use Rattle.plan_request.specs.declared.sources.Sources.{Sources}
 use Rattle.plan_request.specs.declared.solving.Solving.{Solving}
 use Rattle.plan_request.specs.declared.request.Request.{Request}

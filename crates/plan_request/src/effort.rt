@@ -5,7 +5,7 @@ ghost use Rattle.plan_request.specs.Asked.{effort_of};
 ghost use Rattle.plan_request.specs.Shown.{given_by};
 
 use crate::numbers::{amount_or, count_or, whole_or};
-use command_words::Parsed;
+use crate::words::Parsed;
 
 /// When a search ends, and what its trials are.
 #[derive(Clone, Copy, Debug, PartialEq, Eq)]

@@ -1,4 +1,5 @@
-//! What the words of a command line ask for, with the numbers, ranges and defaults of all options.
+//! What the words of a command line ask for, with the numbers, ranges and defaults of all options,
+//! and what stops a run, with its status.
 #![tactic(auto)]
 
 mod command;
@@ -9,6 +10,8 @@ mod request;
 mod sizes;
 mod solving;
 mod sources;
+mod stop;
+mod words;
 
 pub use effort::Effort;
 pub use laws::request_laws;
@@ -16,6 +19,7 @@ pub use request::{Request, request_of};
 pub use sizes::Sizes;
 pub use solving::Solving;
 pub use sources::Sources;
-
-#[cfg(test)]
-mod tests;
+pub use stop::{
+    BAD_WORDS, DONE, GAP_LEFT, LIMIT, NO_MEMORY, NOT_ACCEPTED, READ_FAILED, REFUSED, Report, Stop,
+    WRITE_FAILED,
+};

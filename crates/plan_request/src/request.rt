@@ -1,7 +1,7 @@
 //! Requests.
 
 ghost use Rattle.std.specs.Prelude.{◌≡◌, IfOk, option_map};
-ghost use Rattle.command_words.specs.Shown.{texts_of};
+ghost use Rattle.plan_request.specs.words.Shown.{texts_of};
 ghost use Rattle.plan_request.specs.Asked.{request_of, asked_by, asked_as, checked_of, benched_of};
 ghost use Rattle.plan_request.specs.Shown.{shown_request, given_by};
 
@@ -9,7 +9,7 @@ use crate::command::{Command, command_named};
 use crate::numbers::{count_of, whole_of};
 use crate::solving::{Solving, solving_of};
 use crate::sources::{Sources, sources_of};
-use command_words::{Parsed, parse};
+use crate::words::{Parsed, parse};
 use std::alloc::{AllocError, Global};
 
 /// What the words of a command line ask for.

@@ -5,7 +5,7 @@ ghost use Rattle.plan_request.specs.Asked.{sizes_of};
 ghost use Rattle.plan_request.specs.Shown.{given_by};
 
 use crate::numbers::count_or;
-use command_words::Parsed;
+use crate::words::Parsed;
 
 /// The sizes of a search.
 #[derive(Clone, Copy, Debug, PartialEq, Eq)]

@@ -7,7 +7,7 @@ ghost use Rattle.plan_request.specs.Shown.{shown_solving, given_by};
 use crate::effort::{Effort, effort_of};
 use crate::sizes::{Sizes, sizes_of};
 use crate::sources::{Sources, sources_of};
-use command_words::Parsed;
+use crate::words::Parsed;
 
 /// A task to solve, the name under which its certificate goes, and the search.
 #[derive(Clone, Copy, Debug)]

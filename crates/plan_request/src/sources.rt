@@ -5,7 +5,7 @@ ghost use Rattle.plan_request.specs.Asked.{sources_of, penalty_of};
 ghost use Rattle.plan_request.specs.Shown.{shown_sources, given_by};
 
 use crate::numbers::{amount, amount_or};
-use command_words::Parsed;
+use crate::words::Parsed;
 
 /// The texts of a task, by their names on the shelf, and the terms on which it is read.
 #[derive(Clone, Copy, Debug)]

@@ -10,18 +10,17 @@ use Rattle.plain_list.proofs.Related.{AllPairs-head, AllPairs-tail}
 use Rattle.decision_process.specs.Levels.{IsReachable}
 use Rattle.decision_process.specs.Readings.{Row, HasDistinctStates}
 use Rattle.decision_process.specs.Rounded.{plain_low, plain_high}
-use Rattle.sweep_levels.specs.Sweeps.{rounds_at, IsNear}
+use Rattle.decision_process.specs.sweeps.Sweeps.{rounds_at}
 use Rattle.ground_model.specs.Packed.{State}
 use Rattle.ground_model.specs.Ground.{Ground}
 use Rattle.ground_model.specs.Steps.{ground_process, ground_starts}
 use Rattle.bound_core.specs.declared.image.ImageRow.{ImageRow}
 use Rattle.certificate.specs.Content.{Content, IsCertificate}
-use Rattle.certificate_check.specs.Claims.{ground_certificate}
-use Rattle.closing_bounds.specs.Closing.{HasRowOf, closing_row, closing_rows}
-use Rattle.closing_bounds.specs.Ends.{closing_low, closing_high}
-use Rattle.closing_certificate.specs.Certificates.{IsCertificateOf}
-use Rattle.bound_solver.specs.declared.closing.Closing.{Closing}
-use Rattle.bound_solver.specs.Solved.{IsSolved}
+use Rattle.bound_core.specs.ends.Closing.{closing_row, closing_rows}
+use Rattle.bound_core.specs.ends.Ends.{closing_low, closing_high}
+use Rattle.plan_report.specs.certificates.Certificates.{IsCertificateOf}
+use Rattle.plan_search.specs.declared.solver.closing.Closing.{Closing}
+use Rattle.plan_search.specs.solver.Solved.{IsSolved}
 use Rattle.plan_request.specs.declared.effort.Effort.{Effort}
 use Rattle.plan_request.specs.declared.sizes.Sizes.{Sizes}
 use Rattle.plan_report.specs.declared.ending.Ending.{Ending}

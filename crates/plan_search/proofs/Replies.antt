@@ -2,24 +2,20 @@
 use Rattle.std.proofs.Common.{◌≡◌, ◌↔◌, ◌⊎◌, ℕ, ◌+◌, ◌≤◌, ◌<◌, Bool, refl, sym, subst, inl, inr, length, List}
 use Rattle.std.specs.Prelude.{IsTrue, Ok, Err}
 use Rattle.plain_list.specs.declared.Bytes.{Bytes}
-use Rattle.ground_model.specs.declared.start.Start.{Start}
 use Rattle.ground_model.specs.Ground.{Ground}
 use Rattle.certificate.specs.Content.{Content, IsCertificate, text_of, most_bytes}
 use Rattle.certificate.specs.Answers.{Writes}
 use Rattle.certificate.specs.declared.refusal.WriteRefusal.TheVariants as unwritten
 use Rattle.certificate_check.specs.Claims.{ground_certificate}
-use Rattle.bound_solver.specs.declared.closing.Closing.{Closing}
-use Rattle.closing_bounds.specs.Closing.{closing_rows}
-use Rattle.closing_certificate.specs.Certificates.{IsCertificateOf}
+use Rattle.plan_search.specs.declared.solver.closing.Closing.{Closing}
+use Rattle.bound_core.specs.ends.Closing.{closing_rows}
+use Rattle.plan_report.specs.certificates.Certificates.{IsCertificateOf}
 use Rattle.plan_request.specs.declared.effort.Effort.{Effort}
 use Rattle.plan_request.specs.declared.sizes.Sizes.{Sizes}
-use Rattle.plan_report.specs.declared.ending.Ending.TheVariants.{Converged}
-use Rattle.plan_report.specs.Solved.{Solved, solve_text}
+use Rattle.plan_report.specs.Solved.{solve_text}
 use Rattle.plan_report.specs.Laws.{ReportsAgree}
-use Rattle.plan_stop.specs.declared.stop.Stop.{Stop}
-use Rattle.plan_stop.specs.declared.stop.Stop.TheVariants.{NoMemory, Limit}
-use Rattle.plan_search.specs.declared.answer.Answer.{Answer}
-use Rattle.plan_search.specs.declared.measured.Measured.{Measured}
+use Rattle.plan_request.specs.declared.stop.Stop.{Stop}
+use Rattle.plan_request.specs.declared.stop.Stop.TheVariants.{NoMemory, Limit}
 use Rattle.plan_search.specs.declared.found.Found.{Found}
 use Rattle.plan_search.specs.Found.{IsFound}
 use Rattle.plan_search.specs.Answers.{IsReport, IsAnswerOf, IsMeasuredOf, IsTooLong}

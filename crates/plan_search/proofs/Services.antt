@@ -1,21 +1,21 @@
 -- How a search ends behind a server, from what the solver left.
-use Rattle.std.proofs.Common.{◌≡◌, ◌⊎◌, inl, inr, List, [], ◌∷◌, Option, Some, None, Result, Ok, Err, ℕ, ◌≤◌, sym, ap, subst, refl}
+use Rattle.std.proofs.Common.{◌≡◌, ◌⊎◌, inl, inr, List, [], ◌∷◌, None, Result, Ok, Err, ◌≤◌, sym, ap, subst}
 use Rattle.std.specs.Prelude.{IfOk, IfErr}
 use Rattle.std.specs.List.{AllByRecursion}
 use Rattle.bound_core.specs.declared.image.ImageRow.{ImageRow}
-use Rattle.bound_solver.specs.declared.closing.Closing.{Closing}
+use Rattle.plan_search.specs.declared.solver.closing.Closing.{Closing}
 use Rattle.certificate.specs.Content.{Content}
 use Rattle.certificate_check.specs.Claims.{ground_certificate}
-use Rattle.closing_bounds.specs.Closing.{closing_rows}
-use Rattle.closing_certificate.specs.Certificates.{IsCertificateOf}
+use Rattle.bound_core.specs.ends.Closing.{closing_rows}
+use Rattle.plan_report.specs.certificates.Certificates.{IsCertificateOf}
 use Rattle.ground_model.specs.Ground.{Ground}
 use Rattle.plan_request.specs.declared.effort.Effort.{Effort}
 use Rattle.plan_request.specs.declared.sizes.Sizes.{Sizes}
-use Rattle.plan_stop.specs.declared.stop.Stop.{Stop}
-use Rattle.plan_stop.specs.declared.stop.Stop.TheVariants.{NoMemory}
+use Rattle.plan_request.specs.declared.stop.Stop.{Stop}
+use Rattle.plan_request.specs.declared.stop.Stop.TheVariants.{NoMemory}
 use Rattle.policy_server.specs.Replies.{Reply, NoQuery, NoAtom, Unvisited, Found}
 use Rattle.policy_server.specs.declared.served.Served.{Served}
-use Rattle.serving_solver.specs.Served.{Streams, IsServed, IsKept}
+use Rattle.plan_search.specs.service.Served.{Streams, IsServed, IsKept}
 use Rattle.plan_search.specs.declared.answer.Answer.{Answer}
 use Rattle.plan_search.specs.Answers.{IsAnswerOf, IsTooLong}
 use Rattle.plan_search.specs.Solving.{IsAnswerLeft}

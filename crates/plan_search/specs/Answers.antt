@@ -12,8 +12,8 @@ use Rattle.plan_request.specs.declared.effort.Effort.{Effort}
 use Rattle.plan_request.specs.declared.sizes.Sizes.{Sizes}
 use Rattle.plan_report.specs.declared.ending.Ending.TheVariants.{Converged}
 use Rattle.plan_report.specs.Solved.{Solved, solve_text}
-use Rattle.plan_stop.specs.declared.stop.Stop.{Stop}
-use Rattle.plan_stop.specs.declared.stop.Stop.TheVariants.{Limit}
+use Rattle.plan_request.specs.declared.stop.Stop.{Stop}
+use Rattle.plan_request.specs.declared.stop.Stop.TheVariants.{Limit}
 use Rattle.plan_search.specs.declared.answer.Answer.{Answer}
 use Rattle.plan_search.specs.declared.measured.Measured.{Measured}
 use Rattle.plan_search.specs.Found.{IsFound}

@@ -9,7 +9,7 @@ use Rattle.std.specs.Prelude.{◌≡◌, ◌≢◌, ◌↔◌, ℕ, ◌+◌, ◌
 use Rattle.decision_process.specs.Levels.{IsReachable, IsDepthWithin}
 use Rattle.decision_process.specs.Readings.{Row}
 use Rattle.decision_process.specs.Rounded.{plain_low, plain_high}
-use Rattle.sweep_levels.specs.Sweeps.{rounds_at, IsNear}
+use Rattle.decision_process.specs.sweeps.Sweeps.{rounds_at, IsNear}
 use Rattle.ground_model.specs.Packed.{State}
 use Rattle.ground_model.specs.Ground.{Ground}
 use Rattle.ground_model.specs.Steps.{ground_process, ground_starts}

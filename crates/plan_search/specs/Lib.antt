@@ -2,3 +2,5 @@ pub mod Found
 pub mod Answers
 pub mod Serving
 pub mod Solving
+pub mod solver
+pub mod service

@@ -17,13 +17,13 @@ use Rattle.certificate_check.specs.Claims.{ground_certificate}
 use Rattle.ground_model.specs.Ground.{Ground}
 use Rattle.plan_request.specs.declared.effort.Effort.{Effort}
 use Rattle.plan_request.specs.declared.sizes.Sizes.{Sizes}
-use Rattle.plan_stop.specs.declared.stop.Stop.{Stop}
-use Rattle.plan_stop.specs.declared.stop.Stop.TheVariants.{NoMemory, ReadFailed, WriteFailed}
+use Rattle.plan_request.specs.declared.stop.Stop.{Stop}
+use Rattle.plan_request.specs.declared.stop.Stop.TheVariants.{NoMemory, ReadFailed, WriteFailed}
 use Rattle.policy_server.specs.declared.serve_end.ServeEnd.{ServeEnd}
 use Rattle.policy_server.specs.declared.serve_end.ServeEnd.TheVariants as ends
 use Rattle.policy_server.specs.declared.served.Served.{Served}
 use Rattle.policy_server.specs.Replies.{Reply}
-use Rattle.serving_solver.specs.Served.{Streams, HasServed, IsKept}
+use Rattle.plan_search.specs.service.Served.{Streams, HasServed, IsKept}
 use Rattle.plan_search.specs.declared.answer.Answer.{Answer}
 use Rattle.plan_search.specs.Answers.{IsAnswerOf, IsTooLong}
 

@@ -11,15 +11,15 @@ use Rattle.std.specs.Prelude.{◌≡◌, ◌⊎◌, ℕ, ◌+◌, ◌<◌, lengt
 use Rattle.ground_model.specs.Ground.{Ground}
 use Rattle.certificate.specs.Content.{Content, text_of, most_bytes}
 use Rattle.trial_workers.specs.declared.effort.Effort as workers
-use Rattle.bound_solver.specs.declared.sizes.Sizes as solver
-use Rattle.bound_solver.specs.declared.closing.Closing.{Closing}
-use Rattle.bound_solver.specs.Solved.{IsSolved}
-use Rattle.closing_certificate.specs.Certificates.{IsCertificateOf}
+use Rattle.plan_search.specs.declared.solver.sizes.Sizes as solver
+use Rattle.plan_search.specs.declared.solver.closing.Closing.{Closing}
+use Rattle.plan_search.specs.solver.Solved.{IsSolved}
+use Rattle.plan_report.specs.certificates.Certificates.{IsCertificateOf}
 use Rattle.plan_request.specs.declared.effort.Effort.{Effort}
 use Rattle.plan_request.specs.declared.sizes.Sizes.{Sizes}
 use Rattle.plan_report.specs.Solved.{Solved, solved_of}
-use Rattle.plan_stop.specs.declared.stop.Stop.{Stop}
-use Rattle.plan_stop.specs.declared.stop.Stop.TheVariants.{NoMemory, Limit}
+use Rattle.plan_request.specs.declared.stop.Stop.{Stop}
+use Rattle.plan_request.specs.declared.stop.Stop.TheVariants.{NoMemory, Limit}
 use Rattle.plan_search.specs.declared.answer.Answer.{Answer}
 use Rattle.plan_search.specs.declared.found.Found.{Found}
 use Rattle.plan_search.specs.Answers.{IsAnswerOf}

@@ -1,20 +1,19 @@
 //! What comes behind a search: its certificate, the report, and the text of the certificate.
 
 ghost use Rattle.std.specs.Prelude.{◌≡◌, ◌⊎◌, IfOk, IfErr};
-ghost use Rattle.closing_certificate.specs.Certificates.{HasNameLists};
-ghost use Rattle.bound_solver.specs.Solved.{IsSolved};
+ghost use Rattle.plan_report.specs.certificates.Certificates.{HasNameLists};
+ghost use Rattle.plan_search.specs.solver.Solved.{IsSolved};
 ghost use Rattle.plan_request.specs.Laws.{AreSizes};
-ghost use Rattle.plan_stop.specs.declared.stop.Stop.TheVariants.{NoMemory};
+ghost use Rattle.plan_request.specs.declared.stop.Stop.TheVariants.{NoMemory};
 ghost use Rattle.plan_search.specs.Answers.{IsMeasuredOf, IsTooLong};
 ghost use Rattle.plan_search.specs.Solving.{solver_effort, solver_sizes, IsAnswerLeft};
 
 use crate::answer::Answer;
 use crate::found::found_of;
 use crate::measured::Measured;
-use bound_solver::Closing;
+use crate::solver::Closing;
 use ground_model::GroundProblem;
-use plan_request::{Effort, Sizes};
-use plan_stop::Stop;
+use plan_request::{Effort, Sizes, Stop};
 use std::alloc::{AllocError, Global};
 
 /// What is written and put of what a solver left. The text of the certificate is made behind the report,

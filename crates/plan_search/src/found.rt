@@ -3,23 +3,21 @@
 ghost use Rattle.std.specs.Prelude.{◌≡◌, ◌↔◌, ◌≤◌, ◌+◌, IsTrue, length, IfOk, IfErr};
 ghost use Rattle.certificate.specs.Content.{IsCertificate, text_of, most_bytes};
 ghost use Rattle.certificate_check.specs.Claims.{ground_certificate};
-ghost use Rattle.closing_certificate.specs.Certificates.{HasNameLists};
-ghost use Rattle.bound_solver.specs.Solved.{IsSolved};
+ghost use Rattle.plan_report.specs.certificates.Certificates.{HasNameLists};
+ghost use Rattle.plan_search.specs.solver.Solved.{IsSolved};
 ghost use Rattle.plan_request.specs.Laws.{AreSizes};
 ghost use Rattle.plan_report.specs.Solved.{solve_text};
 ghost use Rattle.plan_search.specs.Solving.{IsFoundBy, IsUnwritten};
 ghost use Rattle.plan_search.specs.Solving.{solver_effort, solver_sizes, told_of};
 
+use crate::solver::Closing;
 use crate::terms::all_ids;
-use bound_solver::Closing;
+use bound_core::Ends;
 use certificate::{Certificate, MOST_BYTES, WriteRefusal, write};
-use closing_bounds::Ends;
-use closing_certificate::certificate_of;
 use ground_model::GroundProblem;
 use plain_list::Bytes;
-use plan_report::{report_laws, solve_report};
-use plan_request::{Effort, Sizes};
-use plan_stop::Stop;
+use plan_report::{certificate_of, report_laws, solve_report};
+use plan_request::{Effort, Sizes, Stop};
 use std::alloc::{AllocError, Global};
 
 /// The number of the limit on the bytes of a certificate.

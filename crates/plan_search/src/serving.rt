@@ -1,18 +1,17 @@
 //! Solving a ground problem while a server answers queries.
 
 ghost use Rattle.std.specs.Prelude.{◌≡◌, ◌⊎◌, Err};
-ghost use Rattle.closing_certificate.specs.Certificates.{HasNameLists};
+ghost use Rattle.plan_report.specs.certificates.Certificates.{HasNameLists};
 ghost use Rattle.plan_request.specs.Laws.{IsEffort, AreSizes};
-ghost use Rattle.plan_stop.specs.declared.stop.Stop.TheVariants.{NoMemory};
-ghost use Rattle.serving_solver.specs.Served.{streams, IsUnserved};
+ghost use Rattle.plan_request.specs.declared.stop.Stop.TheVariants.{NoMemory};
+ghost use Rattle.plan_search.specs.service.Served.{streams, IsUnserved};
 ghost use Rattle.plan_search.specs.Serving.{stop_of, EndsServing};
 
 use crate::answer::Answer;
 use crate::answering::answer_of;
 use crate::terms::{solver_effort, solver_sizes};
 use ground_model::GroundProblem;
-use plan_request::{Effort, Sizes};
-use plan_stop::Stop;
+use plan_request::{Effort, Sizes, Stop};
 use policy_server::ServeEnd;
 use shelf_io::{Gate, Sink, Source};
 use std::alloc::Global;
@@ -41,7 +40,7 @@ pub fn serve<R: Threads + Sync, I: Source, O: Sink, G: Gate>(
 {
     let terms = solver_effort(effort);
     let table = solver_sizes(sizes);
-    let service = serving_solver::serve(rt, alloc, problem, &table, &terms, source, sink, gate)?;
+    let service = crate::service::serve(rt, alloc, problem, &table, &terms, source, sink, gate)?;
     match stop_of(service.served.end) {
         None => answer_of(alloc, problem, effort, sizes, service.closing),
         Some(stop) => Err(stop),

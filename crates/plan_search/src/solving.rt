@@ -1,21 +1,20 @@
 //! Solving a ground problem.
 
 ghost use Rattle.std.specs.Prelude.{◌≡◌, ◌⊎◌, IfOk, IfErr};
-ghost use Rattle.closing_certificate.specs.Certificates.{HasNameLists};
-ghost use Rattle.bound_solver.specs.Solved.{IsSolved};
+ghost use Rattle.plan_report.specs.certificates.Certificates.{HasNameLists};
+ghost use Rattle.plan_search.specs.solver.Solved.{IsSolved};
 ghost use Rattle.plan_request.specs.Laws.{IsEffort, AreSizes};
-ghost use Rattle.plan_stop.specs.declared.stop.Stop.TheVariants.{NoMemory};
+ghost use Rattle.plan_request.specs.declared.stop.Stop.TheVariants.{NoMemory};
 ghost use Rattle.plan_search.specs.Answers.{IsAnswerOf, IsMeasuredOf, IsTooLong};
 ghost use Rattle.plan_search.specs.Solving.{solver_effort, solver_sizes};
 
 use crate::answer::Answer;
 use crate::answering::{answer_of, measured_of};
 use crate::measured::Measured;
+use crate::solver::Closing;
 use crate::terms::{solver_effort, solver_sizes};
-use bound_solver::Closing;
 use ground_model::GroundProblem;
-use plan_request::{Effort, Sizes};
-use plan_stop::Stop;
+use plan_request::{Effort, Sizes, Stop};
 use shelf_io::Gate;
 use std::alloc::{AllocError, Global};
 use std::thread::Threads;
@@ -36,7 +35,7 @@ fn search<R: Threads + Sync, G: Gate>(
 {
     let effort = solver_effort(effort);
     let sizes = solver_sizes(sizes);
-    bound_solver::solve(rt, alloc, problem, &sizes, &effort, gate)
+    crate::solver::solve(rt, alloc, problem, &sizes, &effort, gate)
 }
 
 /// Solves a ground problem: the text of a certificate of what was found, and the report.

@@ -21,10 +21,10 @@ pub(crate) fn solver_effort(effort: &Effort) -> trial_workers::Effort
 }
 
 /// The sizes of a solver.
-pub(crate) fn solver_sizes(sizes: &Sizes) -> bound_solver::Sizes
+pub(crate) fn solver_sizes(sizes: &Sizes) -> crate::solver::Sizes
     ensures { result ≡ solver_sizes sizes.now }
 {
-    bound_solver::Sizes {
+    crate::solver::Sizes {
         workers: sizes.workers,
         states: sizes.states,
         sweep_states: sizes.sweep_states,

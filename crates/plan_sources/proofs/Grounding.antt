@@ -1,21 +1,21 @@
 -- The task of texts and its ground problem, with what stops a run there.
-use Rattle.std.proofs.Common.{◌≡◌, ap, ◌∙◌, List, Option, Result, Ok, Err}
+use Rattle.std.proofs.Common.{◌≡◌, ap, ◌∙◌, Result, Ok, Err}
 use Rattle.plain_list.specs.Results.{◌>>=◌}
 use Rattle.ppddl_model.specs.declared.refusal.TextRefusal.{TextRefusal}
 use Rattle.ppddl_model.specs.declared.refusal.TextRefusal.TheVariants as refusal
 use Rattle.ppddl_model.specs.declared.tree.Task.{Task}
 use Rattle.ground_model.specs.Ground.{Ground}
-use Rattle.grounding.specs.declared.refusal.GroundRefusal.{GroundRefusal}
-use Rattle.grounding.specs.declared.refusal.GroundRefusal.TheVariants as grounding
-use Rattle.grounding.specs.Laws.{AreInRange}
-use Rattle.grounding.specs.Limits.{grounded}
+use Rattle.ground_meaning.specs.declared.refusals.refusal.GroundRefusal.{GroundRefusal}
+use Rattle.ground_meaning.specs.declared.refusals.refusal.GroundRefusal.TheVariants as grounding
+use Rattle.ground_meaning.specs.refusals.Laws.{AreInRange}
+use Rattle.ground_meaning.specs.refusals.Limits.{grounded}
 use Rattle.grounder.specs.Answers.{Refuses}
-use Rattle.token_cursor.specs.Reading.{Fails}
-use Rattle.ppddl_tasks.specs.Texts.{task_of}
+use Rattle.ppddl_cursor.specs.Reading.{Fails}
+use Rattle.ppddl_reader.specs.tasks.Texts.{task_of}
 use Rattle.plan_request.specs.Asked.{Sources}
 use Rattle.plan_request.specs.Laws.{AreTerms}
-use Rattle.plan_stop.specs.declared.stop.Stop.{Stop}
-use Rattle.plan_stop.specs.Stop.{stop_of_text}
+use Rattle.plan_request.specs.declared.stop.Stop.{Stop}
+use Rattle.plan_request.specs.stop.Stop.{stop_of_text}
 use Rattle.plan_sources.specs.declared.texts.Texts.{Texts}
 use Rattle.plan_sources.specs.Endings.{MayEnd}
 use Rattle.plan_sources.specs.Problems.{stop_of_fault, stop_of_grounding, stopped, terms_of, task_in, ground_task, problem_in}

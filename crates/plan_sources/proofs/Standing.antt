@@ -1,24 +1,17 @@
 -- A ground problem of texts stands for their task, and is spelled in lower case.
-use Rattle.std.proofs.Common.{◌≡◌, ℕ, ◌≤◌, refl, sym, ap, subst, ◌∙◌, arith, Option, Some, None, Result, Ok, Err}
-use Rattle.std.specs.Prelude.{IfSome}
+use Rattle.std.proofs.Common.{◌≡◌, refl, sym, ap, subst, ◌∙◌, Result, Ok, Err}
 use Rattle.plain_list.specs.Results.{◌>>=◌}
 use Rattle.certificate.specs.Names.{is_lower_name}
 use Rattle.ppddl_model.specs.declared.tree.Task.{Task}
-use Rattle.ppddl_model.specs.WellFormed.{IsWellFormed}
 use Rattle.ground_model.specs.Ground.{Ground}
-use Rattle.grounding.specs.declared.refusal.GroundRefusal.{GroundRefusal}
-use Rattle.grounding.specs.Laws.{AreInRange, GroundedStands, AreListsOf, HaveForm, NamesKeepTheirForm}
-use Rattle.grounding.specs.Limits.{grounded}
-use Rattle.token_cursor.specs.Reading.{Fault}
-use Rattle.ppddl_tasks.specs.Texts.{task_of}
-use Rattle.ppddl_well_formed.specs.Laws.{TasksAreWellFormed, TasksHaveLowerNames}
-use Rattle.ppddl_well_formed.specs.Names.{HasLowerNames}
+use Rattle.ground_meaning.specs.refusals.Laws.{GroundedStands, AreListsOf, HaveForm, NamesKeepTheirForm}
+use Rattle.ground_meaning.specs.refusals.Limits.{grounded}
+use Rattle.ppddl_grammar.specs.well_formed.Laws.{TasksAreWellFormed, TasksHaveLowerNames}
+use Rattle.ppddl_grammar.specs.well_formed.Names.{HasLowerNames}
 use Rattle.plan_request.specs.Asked.{Sources}
-use Rattle.plan_request.specs.Laws.{AreTerms, IsBetween}
-use Rattle.plan_stop.specs.declared.stop.Stop.{Stop}
 use Rattle.plan_sources.specs.declared.texts.Texts.{Texts}
-use Rattle.plan_sources.specs.Problems.{texts_within, stop_of_fault, stop_of_grounding, stopped, terms_of, task_in, ground_task, problem_in, problem_of}
-use Rattle.plan_sources.specs.Laws.{StandsForTexts, ProblemStands}
+use Rattle.plan_sources.specs.Problems.{texts_within, stop_of_grounding, terms_of, task_in, ground_task, problem_in, problem_of}
+use Rattle.plan_sources.specs.Laws.{ProblemStands}
 use Rattle.plan_sources.proofs.Taking.{given_texts}
 use Rattle.plan_sources.proofs.Grounding.{stopped_ok, terms_in_range, task_read}
 

@@ -1,5 +1,5 @@
 -- What stops a run at texts is a refusal or a limit.
-use Rattle.std.proofs.Common.{◌≡◌, ℕ, true, false, Bool, List, length, subst, Option, Some, None, Result, Ok, Err}
+use Rattle.std.proofs.Common.{ℕ, true, false, Bool, List, length, subst, Option, Some, None, Result, Ok, Err}
 use Rattle.std.specs.Prelude.{nat_le, if◌then◌else◌}
 use Rattle.plain_list.specs.Results.{◌>>=◌}
 use Rattle.ppddl_lex.specs.declared.lexer.TheConstants.{MOST_TEXT}
@@ -7,15 +7,14 @@ use Rattle.ppddl_model.specs.declared.tree.Action.{Action}
 use Rattle.ppddl_model.specs.declared.tree.Task.{Task}
 use Rattle.ppddl_model.specs.Steps.{Charges, Terms, charges_of}
 use Rattle.ground_model.specs.Ground.{Ground}
-use Rattle.grounding.specs.declared.limits.LimitCode.{LimitCode}
-use Rattle.grounding.specs.declared.refusal.GroundRefusal.{GroundRefusal}
-use Rattle.grounding.specs.declared.refusal.GroundRefusal.TheVariants as grounding
-use Rattle.grounding.specs.Limits.{free_action, refused_by, charged, limited, limits, grounded}
-use Rattle.token_cursor.specs.Reading.{Fault}
-use Rattle.ppddl_tasks.specs.Texts.{task_of}
+use Rattle.ground_meaning.specs.declared.refusals.limits.LimitCode.{LimitCode}
+use Rattle.ground_meaning.specs.declared.refusals.refusal.GroundRefusal.{GroundRefusal}
+use Rattle.ground_meaning.specs.declared.refusals.refusal.GroundRefusal.TheVariants as grounding
+use Rattle.ground_meaning.specs.refusals.Limits.{free_action, refused_by, charged, limited, limits, grounded}
+use Rattle.ppddl_cursor.specs.Reading.{Fault}
+use Rattle.ppddl_reader.specs.tasks.Texts.{task_of}
 use Rattle.plan_request.specs.Asked.{Sources}
-use Rattle.plan_stop.specs.declared.stop.Stop.{Stop}
-use Rattle.plan_stop.specs.declared.stop.Stop.TheVariants.{Limit}
+use Rattle.plan_request.specs.declared.stop.Stop.TheVariants.{Limit}
 use Rattle.plan_sources.specs.declared.texts.Texts.{Texts}
 use Rattle.plan_sources.specs.Problems.{text_within, second_within, texts_within, stop_of_fault, stop_of_grounding, stopped, terms_of, task_in, ground_task, problem_in, problem_of}
 use Rattle.plan_sources.specs.Laws.{IsOfTexts, TextsStopSo}

@@ -1,23 +1,22 @@
 -- Readings one after another: what stops the whole where a part is stopped, and what the whole gives.
-use Rattle.std.proofs.Common.{◌≡◌, ℕ, ◌+◌, ◌<◌, ◌≤◌, ◌^◌, ◌⊎◌, inl, inr, true, false, List, length, replicate, refl, sym, ap, ◌∙◌, subst, arith, Option, Some, None, Result, Ok, Err}
+use Rattle.std.proofs.Common.{◌≡◌, ℕ, ◌+◌, ◌<◌, ◌≤◌, ◌⊎◌, inl, inr, List, length, replicate, refl, sym, ap, ◌∙◌, subst, arith, Option, Some, None, Result, Ok, Err}
 use Rattle.std.specs.Prelude.{IfSome, if◌then◌else◌}
 use Rattle.std.proofs.lemmas.Bool.{le-leb}
 use Rattle.std.proofs.lemmas.Bool.Decides.{leb_tells}
 use Rattle.std.proofs.Math.ListN.{length-replicate}
 use Rattle.plain_list.specs.Results.{◌>>=◌}
-use Rattle.shelf_io.specs.Causes.{Rose}
 use Rattle.shelf_io.specs.Shelf.{Told, Untold, Missing, Holds, MayHold}
 use Rattle.shelf_io.specs.declared.shelf_fault.ShelfFault.{ShelfFault}
 use Rattle.shelf_io.specs.declared.shelf_fault.ShelfFault.TheVariants as fault
 use Rattle.ppddl_lex.specs.declared.lexer.TheConstants.{MOST_TEXT}
 use Rattle.ground_model.specs.Ground.{Ground}
 use Rattle.plan_request.specs.Asked.{Sources}
-use Rattle.plan_stop.specs.declared.stop.Stop.{Stop}
-use Rattle.plan_stop.specs.declared.stop.Stop.TheVariants.{BadWords, ReadFailed, WriteFailed, NoMemory, Refused, NotAccepted, Limit}
+use Rattle.plan_request.specs.declared.stop.Stop.{Stop}
+use Rattle.plan_request.specs.declared.stop.Stop.TheVariants.{BadWords, ReadFailed, WriteFailed, NoMemory, Refused, NotAccepted, Limit}
 use Rattle.plan_sources.specs.declared.texts.Texts.{Texts}
-use Rattle.plan_sources.specs.Endings.{MayEnd, MayGive, IsFault, OnlyRead}
+use Rattle.plan_sources.specs.Endings.{MayEnd, MayGive, IsFault}
 use Rattle.plan_sources.specs.Problems.{AreShort, text_within, second_within, texts_within, one_text, problem_in, problem_of}
-use Rattle.plan_sources.specs.Sources.{MayBeSecond, LacksSecond, MayGiveSecond, MayBeTexts, LacksText, MayGiveTexts, MayGiveProblem}
+use Rattle.plan_sources.specs.Sources.{MayBeSecond, MayGiveSecond, MayGiveTexts, MayGiveProblem}
 
 -- ---- endings
 
@@ -49,14 +48,6 @@ pub fault_before : {S : Type 0} (reads : S → ℕ) (old mid new : S) (lacks lac
     → IsFault reads old mid lacks → IsFault reads old new lacks'
 fault_before reads old mid new lacks lacks' later f (inl missing) = inl (f missing)
 fault_before reads old mid new lacks lacks' later f (inr rose) = inr (omega (arith, later, rose))
-
-pub only_read_twice : {S : Type 0} (held : S → List ℕ → Told) (reads writes : S → ℕ) (old mid new : S)
-    → OnlyRead held reads writes old mid → OnlyRead held reads writes mid new → OnlyRead held reads writes old new
-only_read_twice held reads writes old mid new a b = record {
-  held_same = b.held_same ∙ a.held_same;
-  later = omega (arith, a.later, b.later);
-  no_write_fault = b.no_write_fault ∙ a.no_write_fault;
-}
 
 -- ---- bytes above a limit
 

@@ -1,16 +1,13 @@
 -- Texts that a shelf tells give one answer.
-use Rattle.std.proofs.Common.{◌≡◌, ℕ, ◌<◌, ◌≤◌, ◌⊎◌, inl, inr, List, length, refl, sym, ap, ◌∙◌, subst, arith, Option, Some, None, Result, Ok, Err}
+use Rattle.std.proofs.Common.{◌≡◌, ℕ, ◌<◌, inl, inr, List, length, sym, ap, ◌∙◌, subst, Option, Some, None}
 use Rattle.std.proofs.lemmas.Bool.Decides.{leb_tells}
 use Rattle.shelf_io.specs.Shelf.{Told, Holds, MayHold}
 use Rattle.ppddl_lex.specs.declared.lexer.TheConstants.{MOST_TEXT}
-use Rattle.ground_model.specs.Ground.{Ground}
-use Rattle.plan_request.specs.Asked.{Sources}
-use Rattle.plan_stop.specs.declared.stop.Stop.{Stop}
-use Rattle.plan_stop.specs.declared.stop.Stop.TheVariants.{Limit}
+use Rattle.plan_request.specs.declared.stop.Stop.TheVariants.{Limit}
 use Rattle.plan_sources.specs.declared.texts.Texts.{Texts}
 use Rattle.plan_sources.specs.Problems.{problem_of}
-use Rattle.plan_sources.specs.Sources.{MayBeSecond, MayBeTexts}
-use Rattle.plan_sources.specs.Laws.{HoldsSecond, HoldsTexts, OneProblemIsTold}
+use Rattle.plan_sources.specs.Sources.{MayBeSecond}
+use Rattle.plan_sources.specs.Laws.{HoldsSecond, OneProblemIsTold}
 use Rattle.plan_sources.proofs.Taking.{long_text, first_too_long, long_problem}
 
 -- what a shelf tells of a name is what it may hold

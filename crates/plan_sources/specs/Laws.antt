@@ -14,14 +14,14 @@ use Rattle.ppddl_model.specs.declared.tree.Task.{Task}
 use Rattle.ppddl_model.specs.Steps.{Charges, charges_of}
 use Rattle.ppddl_model.specs.WellFormed.{IsWellFormed}
 use Rattle.ground_model.specs.Ground.{Ground}
-use Rattle.ground_stands.specs.Stands.{IsGroundOf}
-use Rattle.grounding.specs.Problem.{ground_problem}
-use Rattle.grounding.specs.Laws.{AreListsOf}
-use Rattle.ppddl_tasks.specs.Texts.{task_of}
+use Rattle.ground_meaning.specs.stands.Stands.{IsGroundOf}
+use Rattle.ground_meaning.specs.refusals.Problem.{ground_problem}
+use Rattle.ground_meaning.specs.refusals.Laws.{AreListsOf}
+use Rattle.ppddl_reader.specs.tasks.Texts.{task_of}
 use Rattle.plan_request.specs.Asked.{Sources}
 use Rattle.plan_request.specs.Laws.{AreTerms}
-use Rattle.plan_stop.specs.declared.stop.Stop.{Stop}
-use Rattle.plan_stop.specs.declared.stop.Stop.TheVariants.{BadWords, ReadFailed, WriteFailed, NoMemory, Refused, NotAccepted, Limit}
+use Rattle.plan_request.specs.declared.stop.Stop.{Stop}
+use Rattle.plan_request.specs.declared.stop.Stop.TheVariants.{BadWords, ReadFailed, WriteFailed, NoMemory, Refused, NotAccepted, Limit}
 use Rattle.plan_sources.specs.declared.texts.Texts.{Texts}
 use Rattle.plan_sources.specs.Problems.{terms_of, problem_of}
 use Rattle.plan_sources.specs.Sources.{MayGiveProblem}

@@ -21,15 +21,15 @@ use Rattle.ppddl_model.specs.declared.refusal.TextCode.TheVariants.{CostNotPosit
 use Rattle.ppddl_model.specs.declared.tree.Task.{Task}
 use Rattle.ppddl_model.specs.Steps.{Terms}
 use Rattle.ground_model.specs.Ground.{Ground}
-use Rattle.grounding.specs.declared.refusal.GroundRefusal.{GroundRefusal}
-use Rattle.grounding.specs.declared.refusal.GroundRefusal.TheVariants as grounding
-use Rattle.grounding.specs.Codes.{number_of, most_of}
-use Rattle.grounding.specs.Limits.{grounded}
-use Rattle.token_cursor.specs.Reading.{Fault}
-use Rattle.ppddl_tasks.specs.Texts.{task_of}
+use Rattle.ground_meaning.specs.declared.refusals.refusal.GroundRefusal.{GroundRefusal}
+use Rattle.ground_meaning.specs.declared.refusals.refusal.GroundRefusal.TheVariants as grounding
+use Rattle.ground_meaning.specs.refusals.Codes.{number_of, most_of}
+use Rattle.ground_meaning.specs.refusals.Limits.{grounded}
+use Rattle.ppddl_cursor.specs.Reading.{Fault}
+use Rattle.ppddl_reader.specs.tasks.Texts.{task_of}
 use Rattle.plan_request.specs.Asked.{Sources}
-use Rattle.plan_stop.specs.declared.stop.Stop.{Stop}
-use Rattle.plan_stop.specs.declared.stop.Stop.TheVariants.{NoMemory, Refused, Limit}
+use Rattle.plan_request.specs.declared.stop.Stop.{Stop}
+use Rattle.plan_request.specs.declared.stop.Stop.TheVariants.{NoMemory, Refused, Limit}
 use Rattle.plan_sources.specs.declared.texts.Texts.{Texts}
 
 -- ---- texts

@@ -13,8 +13,8 @@ use Rattle.certificate.specs.Reading.{read_of}
 use Rattle.ppddl_lex.specs.declared.lexer.TheConstants.{MOST_TEXT}
 use Rattle.ground_model.specs.Ground.{Ground}
 use Rattle.plan_request.specs.Asked.{Sources}
-use Rattle.plan_stop.specs.declared.stop.Stop.{Stop}
-use Rattle.plan_stop.specs.Stop.{stop_of_certificate}
+use Rattle.plan_request.specs.declared.stop.Stop.{Stop}
+use Rattle.plan_request.specs.stop.Stop.{stop_of_certificate}
 use Rattle.plan_sources.specs.declared.texts.Texts.{Texts}
 use Rattle.plan_sources.specs.Problems.{stopped, second_within, texts_within, problem_of}
 

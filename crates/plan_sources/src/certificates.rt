@@ -6,7 +6,7 @@ ghost use Rattle.plan_sources.specs.Endings.{MayEnd, MayGive, IsFault, OnlyRead}
 ghost use Rattle.plan_sources.specs.Sources.{certificate_in};
 
 use certificate::{CertRefusal, Certificate, MOST_BYTES, text_laws};
-use plan_stop::Stop;
+use plan_request::Stop;
 use shelf_io::{Shelf, ShelfFault};
 use std::alloc::Global;
 

@@ -2,8 +2,8 @@
 
 ghost use Rattle.plan_sources.specs.Laws.{OneProblemIsTold, TextsStopSo, ProblemStands};
 
-use grounding::grounding_laws;
-use ppddl_well_formed::task_laws;
+use ground_meaning::grounding_laws;
+use ppddl_grammar::task_laws;
 
 /// Texts that are told give one answer; what stops a run there is a refusal or a limit; and a ground
 /// problem stands for the task of its texts, and is spelled as certificates are.

@@ -9,13 +9,12 @@ ghost use Rattle.plan_sources.specs.Problems.{AreShort, stop_of_grounding, task_
 ghost use Rattle.plan_sources.specs.Problems.{ground_task, problem_in};
 
 use crate::texts::Texts;
+use ground_meaning::GroundRefusal;
 use ground_model::GroundProblem;
 use grounder::{Terms, ground};
-use grounding::GroundRefusal;
-use plan_request::Sources;
-use plan_stop::Stop;
+use plan_request::{Sources, Stop};
+use ppddl_grammar::task_laws;
 use ppddl_model::{Task, TextCode};
-use ppddl_well_formed::task_laws;
 use std::alloc::Global;
 
 /// What stops a run where a task is not grounded, in the text in which the fault is.
@@ -47,7 +46,7 @@ fn task_in(alloc: Global, texts: &Texts) -> Result<Task, Stop>
     ensures { MayEnd ⊥ (λ r. task_in texts.now ≡ r) result }
 {
     let first = texts.first.as_slice();
-    Ok(ppddl_tasks::read(alloc, first, texts.second())?)
+    Ok(ppddl_reader::read(alloc, first, texts.second())?)
 }
 
 /// The ground problem of a task, on a request's terms.

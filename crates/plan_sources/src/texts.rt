@@ -11,8 +11,7 @@ ghost use Rattle.plan_sources.specs.Sources.{LacksSecond, MayGiveSecond};
 ghost use Rattle.plan_sources.specs.Sources.{LacksText, MayGiveTexts};
 
 use plain_list::Bytes;
-use plan_request::Sources;
-use plan_stop::Stop;
+use plan_request::{Sources, Stop};
 use ppddl_lex::MOST_TEXT;
 use shelf_io::{Shelf, ShelfFault};
 use std::alloc::Global;

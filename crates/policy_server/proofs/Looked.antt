@@ -8,19 +8,19 @@ use Rattle.ground_model.specs.Packed.{State}
 use Rattle.ground_model.specs.Steps.{ground_process}
 use Rattle.ground_step.specs.Hash.{hash_of}
 use Rattle.bound_core.specs.Numbers.{goal_word, quit_word, first_word}
-use Rattle.word_layout.specs.declared.layout.Layout.{Layout}
-use Rattle.word_layout.specs.Places.{turn}
-use Rattle.word_view.specs.declared.notes.Look.{Look}
-use Rattle.word_view.specs.declared.notes.Look.TheVariants.{End}
-use Rattle.word_view.specs.declared.notes.Load.TheVariants.{Lower, Upper}
-use Rattle.word_view.specs.declared.view.View.{View}
-use Rattle.word_view.specs.Views.{number, held, has_state, seen_lower, seen_upper, noted_upper, IsOther, IsClear}
-use Rattle.word_view.specs.Laws.{HasMore, IsLater}
-use Rattle.word_view.specs.Steps.{with_count, with_lower_load}
-use Rattle.word_view.proofs.Lists.{is_first}
-use Rattle.word_view.proofs.Noting.{noted_is_more}
-use Rattle.word_view.proofs.Seen.{has_state_more, seen_lower_is_greatest, seen_upper_is_least, raised_is_seen, sunk_is_seen, more_is_later, greatest_over, least_under, least_first}
-use Rattle.word_rule.specs.Told.{HasOneEach}
+use Rattle.word_table.specs.declared.layout.Layout.{Layout}
+use Rattle.word_table.specs.layout.Places.{turn}
+use Rattle.word_table.specs.declared.view.notes.Look.{Look}
+use Rattle.word_table.specs.declared.view.notes.Look.TheVariants.{End}
+use Rattle.word_table.specs.declared.view.notes.Load.TheVariants.{Lower, Upper}
+use Rattle.word_table.specs.declared.view.View.{View}
+use Rattle.word_table.specs.view.Views.{number, held, has_state, seen_lower, seen_upper, noted_upper, IsOther, IsClear}
+use Rattle.word_table.specs.view.Laws.{HasMore, IsLater}
+use Rattle.word_table.specs.view.Steps.{with_count, with_lower_load}
+use Rattle.word_table.proofs.lemmas.view.Lists.{is_first}
+use Rattle.word_table.proofs.lemmas.view.Noting.{noted_is_more}
+use Rattle.word_table.proofs.lemmas.view.Seen.{has_state_more, seen_lower_is_greatest, seen_upper_is_least, raised_is_seen, sunk_is_seen, more_is_later, greatest_over, least_under, least_first}
+use Rattle.word_table.specs.rule.Told.{HasOneEach}
 use Rattle.word_table.specs.Seen.{Board, Knowledge, knowledge, IsOf}
 use Rattle.bound_words.specs.declared.bounds.Interval.{Interval}
 use Rattle.bound_words.specs.Intervals.{with_interval, word_in, TellsInterval}

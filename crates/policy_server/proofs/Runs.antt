@@ -8,10 +8,10 @@ use Rattle.std.proofs.lemmas.List.{append-nil}
 use Rattle.shelf_io.specs.Causes.{one_more}
 use Rattle.ground_model.specs.Packed.{State}
 use Rattle.ground_model.specs.Ground.{Ground}
-use Rattle.word_view.specs.declared.view.View.{View}
-use Rattle.word_view.specs.declared.notes.Look.TheVariants.{Empty}
-use Rattle.word_view.specs.Laws.{HasMore}
-use Rattle.word_view.proofs.Seen.{has_state_more, more_is_later}
+use Rattle.word_table.specs.declared.view.View.{View}
+use Rattle.word_table.specs.declared.view.notes.Look.TheVariants.{Empty}
+use Rattle.word_table.specs.view.Laws.{HasMore}
+use Rattle.word_table.proofs.lemmas.view.Seen.{has_state_more, more_is_later}
 use Rattle.word_table.specs.Seen.{Board, Knowledge, IsOf}
 use Rattle.bound_words.specs.declared.bounds.Interval.{Interval}
 use Rattle.state_interner.specs.Interned.{AddsLooks}
@@ -76,9 +76,6 @@ cut_lines (line ∷ lines) rest are whole =
 last_is : (line : List ℕ) → 0 < length line → last_line true line ≡ line ∷ []
 last_is [] some = absurd (omega arith)
 last_is (b ∷ bs) some = refl
-
-no_last : (rest : List ℕ) → last_line false rest ≡ []
-no_last rest = refl
 
 -- ---- what is taken
 
@@ -309,9 +306,6 @@ module _ (b : Board) (k l m : Knowledge) (i j o : Input) (old mid new : Option (
       (no_more (λ ls. FitEach g ls so.replies) so.lines so.fit) (stays long.same)
       (subst (Appends old new) (sym (due_long g long.line so.replies long.is_long.long)) (Appends-trans old mid new (texts g so.replies) long_line so.put put), sym so.count)
       (refl, (let a = so.count in omega arith), long.is_long.long)
-
-  all_replies : (r : Reply) → List Reply
-  all_replies r = so.replies ++ r ∷ []
 
   one_longer : (r : Reply) → length (so.replies ++ r ∷ []) ≡ n + 1
   one_longer r = length-append so.replies (r ∷ []) ∙ ap (λ x. x + 1) so.count

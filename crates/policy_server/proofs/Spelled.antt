@@ -17,7 +17,7 @@ use Rattle.ground_step.specs.Names.{place_of}
 use Rattle.ground_step.proofs.Edits.{with_atoms-none}
 use Rattle.bound_core.specs.Core.{width}
 use Rattle.policy_server.specs.declared.place.Place.{Place}
-use Rattle.policy_server.specs.Queries.{Piece, Left, Right, Word, Names, piece_of, pieces_from, with_piece, with_names, atoms_in, first_in, names_in, number_of, numbers_of, NoQuery, NoAtom, Asks, query_for, query_behind}
+use Rattle.policy_server.specs.Queries.{Piece, Left, Right, Word, Names, piece_of, pieces_from, with_piece, with_names, atoms_in, first_in, names_in, number_of, numbers_of, Asks, query_for, query_behind}
 use Rattle.policy_server.specs.Parts.{IsPlace, ahead, Passes, in_pieces, IsAtom, AddsAtom}
 
 -- ---- tokens
@@ -47,42 +47,14 @@ pub opens : (a : Option (List Piece)) → in_pieces atoms_in (with_piece Left a)
 opens None = refl
 opens (Some ps) = refl
 
-pub not_open : (a : Option (List Piece)) (w : List ℕ) → in_pieces atoms_in (with_piece (Word w) a) ≡ None
-not_open None w = refl
-not_open (Some ps) w = refl
-
-pub closes_nothing : (a : Option (List Piece)) → in_pieces atoms_in (with_piece Right a) ≡ None
-closes_nothing None = refl
-closes_nothing (Some ps) = refl
-
-pub no_left_first : (a : Option (List Piece)) → in_pieces first_in (with_piece Left a) ≡ None
-no_left_first None = refl
-no_left_first (Some ps) = refl
-
-pub no_right_first : (a : Option (List Piece)) → in_pieces first_in (with_piece Right a) ≡ None
-no_right_first None = refl
-no_right_first (Some ps) = refl
-
 pub first_name : (a : Option (List Piece)) (w : List ℕ) → is_name w ≡ true → in_pieces first_in (with_piece (Word w) a) ≡ in_pieces (names_in (lowered w ∷ [])) a
 first_name None w is = refl
 first_name (Some ps) w is = ap (λ b. cond b (names_in (lowered w ∷ []) ps) None) is
-
-pub no_name_first : (a : Option (List Piece)) (w : List ℕ) → is_name w ≡ false → in_pieces first_in (with_piece (Word w) a) ≡ None
-no_name_first None w is = refl
-no_name_first (Some ps) w is = ap (λ b. cond b (names_in (lowered w ∷ []) ps) None) is
 
 pub next_name : (names : Names) (a : Option (List Piece)) (w : List ℕ) → is_name w ≡ true
     → in_pieces (names_in names) (with_piece (Word w) a) ≡ in_pieces (names_in (names ++ lowered w ∷ [])) a
 next_name names None w is = refl
 next_name names (Some ps) w is = ap (λ b. cond b (names_in (names ++ lowered w ∷ []) ps) None) is
-
-pub no_name_next : (names : Names) (a : Option (List Piece)) (w : List ℕ) → is_name w ≡ false → in_pieces (names_in names) (with_piece (Word w) a) ≡ None
-no_name_next names None w is = refl
-no_name_next names (Some ps) w is = ap (λ b. cond b (names_in (names ++ lowered w ∷ []) ps) None) is
-
-pub no_left_next : (names : Names) (a : Option (List Piece)) → in_pieces (names_in names) (with_piece Left a) ≡ None
-no_left_next names None = refl
-no_left_next names (Some ps) = refl
 
 pub closes : (names : Names) (a : Option (List Piece)) → in_pieces (names_in names) (with_piece Right a) ≡ with_names names (in_pieces atoms_in a)
 closes names None = refl
@@ -152,9 +124,6 @@ read_more n (Some ns) None known is s t a b = ap (λ x. known && x) b.0 ∙ ap (
 read_more n (Some ns) (Some p) known is s t a b =
     (ap (λ x. x && is) a.0 ∙ b.0, b.1 ∙ ap (λ x. with_atom x p) a.1 ∙ sym (with_atoms-last (packed (λ _. false) n) ns p))
 
-pub all_false : (n : ℕ) (s : State) → s ≡ packed (λ _. false) n → HasRead n (Some []) true s
-all_false n s is = (refl, is)
-
 pub wide_more : (place : Option ℕ) (is : Bool) (s t : State) → AddsAtom place is s t → length t ≡ length s
 wide_more None is s t a = ap length a.1
 wide_more (Some p) is s t a = ap length a.1 ∙ length-packed (λ q. nat_eq q p || has_bit s q) (length s)
@@ -162,10 +131,6 @@ wide_more (Some p) is s t a = ap length a.1 ∙ length-packed (λ q. nat_eq q p 
 pub query_is : (g : Ground) (found : Option (List ℕ)) (known : Bool) (s : State) → HasRead (width g) found known s → known ≡ true → query_for g found ≡ Asks s
 query_is g None known s read is = absurd cc
 query_is g (Some ns) known s read is = ap Asks (sym (read.1 ∙ with_atoms-none (width g) ns))
-
-pub no_query_is : (g : Ground) (found : Option (List ℕ)) (known : Bool) (s : State) → HasRead (width g) found known s → known ≡ false → query_for g found ≡ NoAtom
-no_query_is g None known s read is = refl
-no_query_is g (Some ns) known s read is = absurd (let on = read.0 in cc)
 
 -- a reader of atoms behind some of them
 pub record Reading (g : Ground) (line : List ℕ) (first now : Place) (known : Bool) (s : State) : Type 0 where
@@ -185,10 +150,6 @@ reading_more g line first p q r known is s t text so left atom adds = record {
       (subst (λ (l : List ℕ). AddsAtom (place_of g.atoms l) is s t) atom.text_is adds));
   same = so.same ∙ (ap (query_behind g so.found) (ap (in_pieces atoms_in) left.next ∙ (opens (ahead line q) ∙ atom.atom)) ∙ one_atom g so.found atom.names (in_pieces atoms_in (ahead line r)));
 }
-
-pub reading_fails : (g : Ground) (line : List ℕ) (first p : Place) (known : Bool) (s : State) → Reading g line first p known s
-    → in_pieces atoms_in (ahead line p) ≡ None → query_behind g (Some []) (in_pieces atoms_in (ahead line first)) ≡ NoQuery
-reading_fails g line first p known s so none = so.same ∙ ap (query_behind g so.found) none
 
 pub reading_ends : (g : Ground) (line : List ℕ) (first p : Place) (known : Bool) (s : State) (so : Reading g line first p known s)
     → ahead line p ≡ Some [] → query_behind g (Some []) (in_pieces atoms_in (ahead line first)) ≡ query_for g so.found

@@ -14,7 +14,7 @@ use Rattle.policy_server.specs.declared.serve_end.ServeEnd.TheVariants as stop
 use Rattle.policy_server.specs.Lines.{fed}
 use Rattle.policy_server.specs.Queries.{Query, query_of}
 use Rattle.policy_server.specs.Queries as query
-use Rattle.policy_server.specs.Replies.{Reply, text_of, Fits, Serves}
+use Rattle.policy_server.specs.Replies.{Fits}
 use Rattle.policy_server.specs.Replies as reply
 use Rattle.policy_server.specs.Serving.{Input, Took, long_line}
 use Rattle.policy_server.specs.Parts.{IsLine, IsLong, answer_text, TellsState, TellsAnswer, IsPut, TellsReply, turn_after, TellsTurn, TurnFaults}

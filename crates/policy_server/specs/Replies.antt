@@ -21,13 +21,13 @@ use Rattle.ground_model.specs.Packed.{State}
 use Rattle.ground_model.specs.Ground.{Ground}
 use Rattle.ground_model.specs.Steps.{ground_process}
 use Rattle.bound_core.specs.declared.codes.TheConstants.{AT_GOAL, GIVE_UP}
-use Rattle.word_view.specs.declared.notes.Load.{Load}
-use Rattle.word_view.specs.declared.notes.Load.TheVariants.{Lower, Upper}
-use Rattle.word_view.specs.declared.notes.Look.TheVariants.{Empty}
-use Rattle.word_view.specs.declared.view.View.{View}
-use Rattle.word_view.specs.Views.{has_state, seen_lower, seen_upper, IsClear}
-use Rattle.word_view.specs.Laws.{HasMore}
-use Rattle.word_rule.specs.Told.{IsWorth}
+use Rattle.word_table.specs.declared.view.notes.Load.{Load}
+use Rattle.word_table.specs.declared.view.notes.Load.TheVariants.{Lower, Upper}
+use Rattle.word_table.specs.declared.view.notes.Look.TheVariants.{Empty}
+use Rattle.word_table.specs.declared.view.View.{View}
+use Rattle.word_table.specs.view.Views.{has_state, seen_lower, seen_upper, IsClear}
+use Rattle.word_table.specs.view.Laws.{HasMore}
+use Rattle.word_table.specs.rule.Told.{IsWorth}
 use Rattle.word_table.specs.Seen.{Board, Knowledge, IsOf}
 use Rattle.bound_words.specs.declared.bounds.Interval.{Interval}
 use Rattle.bound_words.specs.Intervals.{word_in}

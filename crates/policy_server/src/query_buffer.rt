@@ -3,7 +3,7 @@
 ghost use Rattle.std.specs.Prelude.{◌≡◌, ◌≤◌, ◌<◌, ◌+◌, ◌^◌, ℕ, length, IfOk};
 ghost use Rattle.bound_core.specs.Core.{width};
 ghost use Rattle.policy_server.specs.Replies.{act_text};
-ghost use Rattle.policy_server.specs.Parts.{IsBufferOf, IsReplyRoom};
+ghost use Rattle.policy_server.specs.Parts.{IsBufferOf};
 
 use crate::byte_buffer::ByteBuffer;
 use crate::limits::MOST_LINE;

@@ -1,6 +1,6 @@
 //! What a line asks.
 
-ghost use Rattle.std.specs.Prelude.{◌≡◌, ◌≤◌, ◌*◌, ◌<◌, length};
+ghost use Rattle.std.specs.Prelude.{◌≡◌, ◌≤◌, ◌<◌, length};
 ghost use Rattle.ground_step.specs.Names.{place_of};
 ghost use Rattle.bound_core.specs.Core.{width};
 ghost use Rattle.policy_server.specs.declared.limits.TheConstants.{MOST_LINE};

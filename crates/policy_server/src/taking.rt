@@ -1,6 +1,6 @@
 //! Lines as they are taken.
 
-ghost use Rattle.std.specs.Prelude.{◌≡◌, ◌≤◌, length};
+ghost use Rattle.std.specs.Prelude.{◌≡◌};
 ghost use Rattle.policy_server.specs.declared.limits.TheConstants.{MOST_LINE};
 ghost use Rattle.policy_server.specs.Serving.{input};
 ghost use Rattle.policy_server.specs.Parts.{TellsByte, TellsLine};

@@ -7,13 +7,13 @@ use Rattle.ppddl_lex.specs.Words.{lowered}
 use Rattle.ppddl_model.specs.declared.refusal.TextCode.TheVariants.{Expected, Unsupported}
 use Rattle.ppddl_model.specs.declared.tree.Condition.{Condition}
 use Rattle.ppddl_model.specs.declared.tree.Condition.TheVariants as tree
-use Rattle.ppddl_names.specs.Declarations.{Declared}
-use Rattle.token_cursor.specs.declared.place.Place.{Place}
-use Rattle.token_cursor.specs.Forms.{Forms, lone, group, none, more, lowered_forms}
-use Rattle.token_cursor.specs.Ahead.{Ahead, top, inner, after, has_form, next_of, word_of, place_of}
-use Rattle.token_cursor.specs.Reading.{Fault, fails, read_to, one_at, rest_at, ends, opened, word_at}
-use Rattle.token_cursor.specs.Sequences.{one_then, last, giving, many}
-use Rattle.token_cursor.proofs.Steps.{giving_step}
+use Rattle.ppddl_forms.specs.names.Declarations.{Declared}
+use Rattle.ppddl_cursor.specs.declared.place.Place.{Place}
+use Rattle.ppddl_cursor.specs.Forms.{Forms, lone, group, none, more, lowered_forms}
+use Rattle.ppddl_cursor.specs.Ahead.{Ahead, top, inner, after, has_form, next_of, word_of, place_of}
+use Rattle.ppddl_cursor.specs.Reading.{Fault, fails, read_to, one_at, rest_at, ends, opened, word_at}
+use Rattle.ppddl_cursor.specs.Sequences.{one_then, last, giving, many}
+use Rattle.ppddl_cursor.proofs.Steps.{giving_step}
 use Rattle.ppddl_forms.specs.declared.condition_head.ConditionHead.{ConditionHead}
 use Rattle.ppddl_forms.specs.declared.condition_head.ConditionHead.TheVariants as head
 use Rattle.ppddl_forms.specs.Sequences.{many_behind}

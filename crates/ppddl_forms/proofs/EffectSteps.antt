@@ -9,14 +9,14 @@ use Rattle.ppddl_model.specs.declared.refusal.TextCode.TheVariants.{Expected, Un
 use Rattle.ppddl_model.specs.declared.tree.Branch.{Branch}
 use Rattle.ppddl_model.specs.declared.tree.Effect.{Effect}
 use Rattle.ppddl_model.specs.declared.tree.Effect.TheVariants as tree
-use Rattle.ppddl_names.specs.Declarations.{Declared}
-use Rattle.token_cursor.specs.declared.place.Place.{Place}
-use Rattle.token_cursor.specs.Forms.{Forms, lone, group, none, more, lowered_form, lowered_forms}
-use Rattle.token_cursor.specs.Ahead.{Ahead, top, inner, after, has_form, next_of, word_of, place_of}
-use Rattle.token_cursor.specs.Reading.{Fault, fails, read_to, one_at, rest_at, ends, opened, word_at}
-use Rattle.token_cursor.specs.Sequences.{one_then, last, giving, many}
-use Rattle.token_cursor.proofs.Results.{through}
-use Rattle.token_cursor.proofs.Steps.{giving_step, then_step}
+use Rattle.ppddl_forms.specs.names.Declarations.{Declared}
+use Rattle.ppddl_cursor.specs.declared.place.Place.{Place}
+use Rattle.ppddl_cursor.specs.Forms.{Forms, lone, group, none, more, lowered_form, lowered_forms}
+use Rattle.ppddl_cursor.specs.Ahead.{Ahead, top, inner, after, has_form, next_of, word_of, place_of}
+use Rattle.ppddl_cursor.specs.Reading.{Fault, fails, read_to, one_at, rest_at, ends, opened, word_at}
+use Rattle.ppddl_cursor.specs.Sequences.{one_then, last, giving, many}
+use Rattle.ppddl_cursor.proofs.Results.{through}
+use Rattle.ppddl_cursor.proofs.Steps.{giving_step, then_step}
 use Rattle.ppddl_forms.specs.declared.effect_head.EffectHead.{EffectHead}
 use Rattle.ppddl_forms.specs.declared.effect_head.EffectHead.TheVariants as head
 use Rattle.ppddl_forms.specs.Sequences.{many_behind}

@@ -5,3 +5,4 @@ pub mod ConditionSteps
 pub mod TermSteps
 pub mod Sums
 pub mod EffectSteps
+pub mod lemmas

@@ -7,13 +7,13 @@ use Rattle.plain_list.specs.Results.{◌>>=◌}
 use Rattle.plain_list.proofs.Results.{bind_assoc}
 use Rattle.ppddl_model.specs.declared.refusal.TextCode.TheVariants.{Expected}
 use Rattle.ppddl_model.specs.declared.tree.Param.{Param}
-use Rattle.ppddl_names.specs.Declarations.{Declared}
-use Rattle.token_cursor.specs.declared.place.Place.{Place}
-use Rattle.token_cursor.specs.Forms.{Form, Forms, lone, group, none, more}
-use Rattle.token_cursor.specs.Ahead.{Ahead, top, inner, after, has_form, is_word, place_of}
-use Rattle.token_cursor.specs.Reading.{Fault, fails, read_to, one_at, rest_at, ends}
-use Rattle.token_cursor.specs.Sequences.{checking, adding, keyword}
-use Rattle.token_cursor.proofs.Steps.{checking_step}
+use Rattle.ppddl_forms.specs.names.Declarations.{Declared}
+use Rattle.ppddl_cursor.specs.declared.place.Place.{Place}
+use Rattle.ppddl_cursor.specs.Forms.{Form, Forms, lone, group, none, more}
+use Rattle.ppddl_cursor.specs.Ahead.{Ahead, top, inner, after, has_form, is_word, place_of}
+use Rattle.ppddl_cursor.specs.Reading.{Fault, fails, read_to, one_at, rest_at, ends}
+use Rattle.ppddl_cursor.specs.Sequences.{checking, adding, keyword}
+use Rattle.ppddl_cursor.proofs.Steps.{checking_step}
 use Rattle.ppddl_forms.specs.declared.symbols.TheConstants.{DASH}
 use Rattle.ppddl_forms.specs.Sequences.{each_to}
 use Rattle.ppddl_forms.specs.Variables.{Listed, listed, listed_by, all_listed, with_types, with_names, at_dash, types_of, types_at, other_variable, variables}

@@ -3,7 +3,7 @@ use Rattle.std.proofs.Common.{◌≡◌, ℕ, suc, ◌-◌, ◌<◌, List, [], �
 use Rattle.std.specs.Prelude.{replicate}
 use Rattle.std.specs.List.{list_any}
 use Rattle.indexmap.specs.IndexSet.{insert_key}
-use Rattle.token_cursor.specs.Ahead.{same}
+use Rattle.ppddl_cursor.specs.Ahead.{same}
 
 -- a new name goes last
 pub insert_new : (seen : List (List ℕ)) (w : List ℕ) → list_any (same w) seen ≡ false → insert_key same seen w ≡ seen ++ w ∷ []

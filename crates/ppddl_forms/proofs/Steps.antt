@@ -1,4 +1,4 @@
--- Reading step by step, beside the steps of `token_cursor`.
+-- Reading step by step, beside the steps of `ppddl_cursor`.
 --     form_steps    the laws by which the readers of forms are proved
 use Rattle.std.proofs.Common.{◌≡◌, ℕ, List, [], ◌∷◌, ◌++◌, Bool, true, false, cond, Result, refl, ap, ◌∙◌}
 use Rattle.plain_list.specs.Results.{◌>>=◌}
@@ -6,13 +6,13 @@ use Rattle.plain_list.proofs.Results.{bind_assoc}
 use Rattle.ppddl_lex.specs.Words.{lowered, is_same_word}
 use Rattle.ppddl_model.specs.declared.refusal.TextCode.{TextCode}
 use Rattle.ppddl_model.specs.declared.refusal.TextCode.TheVariants.{Expected}
-use Rattle.token_cursor.specs.declared.place.Place.{Place}
-use Rattle.token_cursor.specs.Forms.{Form, Forms, lone, group, none, more, lowered_form, lowered_forms}
-use Rattle.token_cursor.specs.Ahead.{Ahead, top, inner, after, has_form, is_word, next_of, word_of, place_of}
-use Rattle.token_cursor.specs.Reading.{Fault, fails, read_to, one_at, rest_at, ends, word_at}
-use Rattle.token_cursor.specs.Sequences.{adding, many}
-use Rattle.token_cursor.proofs.Results.{through}
-use Rattle.token_cursor.proofs.Steps.{reading_steps, each_step, adding_step, many_step}
+use Rattle.ppddl_cursor.specs.declared.place.Place.{Place}
+use Rattle.ppddl_cursor.specs.Forms.{Form, Forms, lone, group, none, more, lowered_form, lowered_forms}
+use Rattle.ppddl_cursor.specs.Ahead.{Ahead, top, inner, after, has_form, is_word, next_of, word_of, place_of}
+use Rattle.ppddl_cursor.specs.Reading.{Fault, fails, read_to, one_at, rest_at, ends, word_at}
+use Rattle.ppddl_cursor.specs.Sequences.{adding, many}
+use Rattle.ppddl_cursor.proofs.Results.{through}
+use Rattle.ppddl_cursor.proofs.Steps.{reading_steps, each_step, adding_step, many_step}
 use Rattle.ppddl_forms.specs.Sequences.{by_word, or_word, many_behind, refused, each_to}
 
 -- a word by a test

@@ -5,7 +5,7 @@ use Rattle.std.proofs.Common.{◌≡◌, ℕ, ◌+◌, ◌*◌, ◌/◌, ◌<◌
 use Rattle.std.specs.Prelude.{All, Contains}
 use Rattle.std.proofs.lemmas.Bool.{lt-ltb, le-ltb}
 use Rattle.std.specs.Int.{◌∣◌}
-use Rattle.std.proofs.Math.Nat.{div-mul_cancel, mul-div_cancel, pos_of_dvd_of_pos, mul_assoc, mul_comm, mul-le-mul_right}
+use Rattle.std.proofs.Math.Nat.{div-mul_cancel, mul-div_cancel, pos_of_dvd_of_pos, mul_assoc}
 use Rattle.std.proofs.lemmas.Nat.Gcd.{dvd_trans}
 use Rattle.std.proofs.lemmas.List.Elements.{All-contains}
 use Rattle.ppddl_model.proofs.Lists.{All-from_map}
@@ -13,12 +13,12 @@ use Rattle.exact_fraction.specs.declared.fraction.Fraction.{Fraction}
 use Rattle.exact_fraction.specs.Divisors.{lcm_of, common_multiple}
 use Rattle.exact_fraction.proofs.DivisorLemmas.{IsLeastMultiple-lcm_of, lcm_of-unique, lcm_of-pos, IsLeastMultipleOf-common_multiple}
 use Rattle.ppddl_model.specs.Denominator.{denominators_of, share}
-use Rattle.weighted.specs.Mean.{total}
-use Rattle.weighted.proofs.Totals.{total-append, total-same, total-times}
+use Rattle.plain_list.specs.weighted.Mean.{total}
+use Rattle.plain_list.proofs.lemmas.weighted.Totals.{total-append, total-same, total-times}
 use Rattle.ppddl_model.specs.declared.limits.TheConstants.{MOST_DENOMINATOR}
 use Rattle.ppddl_model.specs.declared.refusal.TextCode.TheVariants.{Probability, SumAboveOne}
-use Rattle.token_cursor.specs.declared.place.Place.{Place}
-use Rattle.token_cursor.specs.Reading.{fails}
+use Rattle.ppddl_cursor.specs.declared.place.Place.{Place}
+use Rattle.ppddl_cursor.specs.Reading.{fails}
 use Rattle.ppddl_forms.specs.Chances.{common_of, shares_of, within, IsRunning}
 
 lcm_of_assoc : (a b c : ℕ) → lcm_of a (lcm_of b c) ≡ lcm_of (lcm_of a b) c
@@ -73,27 +73,6 @@ shares_next seen p positive =
     = total-same (share whole) (λ c. share den c * (whole / den)) seen each ∙ total-times (share den) (whole / den) seen in
     let split : total (share whole) (seen ++ p ∷ []) ≡ total (share whole) seen + (share whole p + 0) = total-append (share whole) seen (p ∷ []) in
     omega (arith, split, rest)
-
--- what a common multiple is a multiple of
-common_divides : (seen : List Fraction) (p : Fraction) → (common_of seen ∣ common_of (seen ++ p ∷ [])) × (p.den ∣ common_of (seen ++ p ∷ []))
-common_divides seen p =
-    let l = IsLeastMultiple-lcm_of (common_of seen) p.den in
-    (subst (λ m. common_of seen ∣ m) (sym (common_of_next seen p)) l.first, subst (λ m. p.den ∣ m) (sym (common_of_next seen p)) l.second)
-
--- how many times a number of shares grows
-pub rescaled : (seen : List Fraction) (p : Fraction) (num : ℕ) → num ≤ common_of seen → num * (common_of (seen ++ p ∷ []) / common_of seen) ≤ common_of (seen ++ p ∷ [])
-rescaled seen p num below =
-    let q : ℕ = common_of (seen ++ p ∷ []) / common_of seen in
-    let scaled : num * q ≤ common_of seen * q = mul-le-mul_right q below in
-    let whole : common_of seen * q ≡ common_of (seen ++ p ∷ []) = mul_comm (common_of seen) q ∙ div-mul_cancel (common_of seen) (common_divides seen p).0 in
-    omega (arith, scaled, whole)
-
-pub own_share : (seen : List Fraction) (p : Fraction) → p.num ≤ p.den → p.num * (common_of (seen ++ p ∷ []) / p.den) ≤ common_of (seen ++ p ∷ [])
-own_share seen p below =
-    let q : ℕ = common_of (seen ++ p ∷ []) / p.den in
-    let scaled : p.num * q ≤ p.den * q = mul-le-mul_right q below in
-    let whole : p.den * q ≡ common_of (seen ++ p ∷ []) = mul_comm p.den q ∙ div-mul_cancel p.den (common_divides seen p).1 in
-    omega (arith, scaled, whole)
 
 -- one more chance, by the numbers that are kept of those before it
 module _ (seen : List Fraction) (p : Fraction) (a : Place) (den num : ℕ) (running : IsRunning seen den num) where

@@ -7,12 +7,12 @@ use Rattle.plain_list.proofs.Results.{bind_assoc}
 use Rattle.ppddl_model.specs.declared.refusal.TextCode.TheVariants.{Arity}
 use Rattle.ppddl_model.specs.declared.tree.Param.{Param}
 use Rattle.ppddl_model.specs.declared.tree.Term.{Term}
-use Rattle.ppddl_names.specs.Declarations.{Declared}
-use Rattle.token_cursor.specs.declared.place.Place.{Place}
-use Rattle.token_cursor.specs.Forms.{Forms}
-use Rattle.token_cursor.specs.Ahead.{Ahead, has_form, place_of}
-use Rattle.token_cursor.specs.Reading.{Fault, fails, read_to, one_at, rest_at, ends}
-use Rattle.token_cursor.proofs.Steps.{checking_step}
+use Rattle.ppddl_forms.specs.names.Declarations.{Declared}
+use Rattle.ppddl_cursor.specs.declared.place.Place.{Place}
+use Rattle.ppddl_cursor.specs.Forms.{Forms}
+use Rattle.ppddl_cursor.specs.Ahead.{Ahead, has_form, place_of}
+use Rattle.ppddl_cursor.specs.Reading.{Fault, fails, read_to, one_at, rest_at, ends}
+use Rattle.ppddl_cursor.proofs.Steps.{checking_step}
 use Rattle.ppddl_forms.specs.Sequences.{each_to}
 use Rattle.ppddl_forms.specs.Terms.{Scope, argument, next_argument, all_given, arguments}
 use Rattle.ppddl_forms.proofs.Steps.{form_steps, each_to_step}

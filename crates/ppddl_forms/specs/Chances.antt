@@ -11,11 +11,11 @@ use Rattle.exact_fraction.specs.Divisors.{common_multiple}
 use Rattle.ppddl_model.specs.Denominator.{denominators_of, share}
 use Rattle.ppddl_model.specs.declared.limits.TheConstants.{MOST_DENOMINATOR}
 use Rattle.ppddl_model.specs.declared.refusal.TextCode.TheVariants.{Probability, SumAboveOne}
-use Rattle.weighted.specs.Mean.{total}
-use Rattle.token_cursor.specs.declared.place.Place.{Place}
-use Rattle.token_cursor.specs.Forms.{Form}
-use Rattle.token_cursor.specs.Reading.{Fault, fails}
-use Rattle.token_cursor.specs.Sequences.{checking, located}
+use Rattle.plain_list.specs.weighted.Mean.{total}
+use Rattle.ppddl_cursor.specs.declared.place.Place.{Place}
+use Rattle.ppddl_cursor.specs.Forms.{Form}
+use Rattle.ppddl_cursor.specs.Reading.{Fault, fails}
+use Rattle.ppddl_cursor.specs.Sequences.{checking, located}
 use Rattle.ppddl_forms.specs.Words.{probability}
 
 abbrev pub common_of : List Fraction → ℕ

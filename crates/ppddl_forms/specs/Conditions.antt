@@ -12,12 +12,12 @@ use Rattle.ppddl_model.specs.declared.refusal.TextCode.TheVariants.{Expected, Un
 use Rattle.ppddl_model.specs.declared.tree.Condition.{Condition}
 use Rattle.ppddl_model.specs.declared.tree.Condition.TheVariants as tree
 use Rattle.ppddl_model.specs.declared.tree.Param.{Param}
-use Rattle.ppddl_names.specs.Declarations.{Declared}
-use Rattle.token_cursor.specs.declared.place.Place.{Place}
-use Rattle.token_cursor.specs.Ahead.{same}
-use Rattle.token_cursor.specs.Forms.{Form, Forms, lone, group, none, more}
-use Rattle.token_cursor.specs.Reading.{Fault, fails, ends}
-use Rattle.token_cursor.specs.Sequences.{one_then, last}
+use Rattle.ppddl_forms.specs.names.Declarations.{Declared}
+use Rattle.ppddl_cursor.specs.declared.place.Place.{Place}
+use Rattle.ppddl_cursor.specs.Ahead.{same}
+use Rattle.ppddl_cursor.specs.Forms.{Form, Forms, lone, group, none, more}
+use Rattle.ppddl_cursor.specs.Reading.{Fault, fails, ends}
+use Rattle.ppddl_cursor.specs.Sequences.{one_then, last}
 use Rattle.ppddl_forms.specs.declared.condition_head.ConditionHead.{ConditionHead}
 use Rattle.ppddl_forms.specs.declared.condition_head.ConditionHead.TheVariants as head
 use Rattle.ppddl_forms.specs.declared.symbols.TheConstants.{EQUAL, LESS, AT_MOST, GREATER, AT_LEAST}

@@ -12,11 +12,11 @@ use Rattle.ppddl_model.specs.declared.tree.Atom.{Atom}
 use Rattle.ppddl_model.specs.declared.tree.Effect.{Effect}
 use Rattle.ppddl_model.specs.declared.tree.Effect.TheVariants as tree
 use Rattle.ppddl_model.specs.declared.tree.PredicateDecl.{PredicateDecl}
-use Rattle.ppddl_names.specs.Declarations.{Declared, predicate_named}
-use Rattle.token_cursor.specs.declared.place.Place.{Place}
-use Rattle.token_cursor.specs.Forms.{Form, Forms}
-use Rattle.token_cursor.specs.Reading.{Fault, fails}
-use Rattle.token_cursor.specs.Sequences.{in_group, one_then, last, giving, checking, word_or_group}
+use Rattle.ppddl_forms.specs.names.Declarations.{Declared, predicate_named}
+use Rattle.ppddl_cursor.specs.declared.place.Place.{Place}
+use Rattle.ppddl_cursor.specs.Forms.{Form, Forms}
+use Rattle.ppddl_cursor.specs.Reading.{Fault, fails}
+use Rattle.ppddl_cursor.specs.Sequences.{in_group, one_then, last, giving, checking, word_or_group}
 use Rattle.ppddl_forms.specs.declared.name.Name.{Name}
 use Rattle.ppddl_forms.specs.Sequences.{by_word}
 use Rattle.ppddl_forms.specs.Terms.{Scope, atom_of, application}

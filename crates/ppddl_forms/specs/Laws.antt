@@ -6,10 +6,10 @@ use Rattle.std.specs.Prelude.{◌≡◌, ℕ, List, [], ◌∷◌, ◌++◌, Boo
 use Rattle.plain_list.specs.Results.{◌>>=◌}
 use Rattle.ppddl_lex.specs.Words.{lowered}
 use Rattle.ppddl_model.specs.declared.refusal.TextCode.{TextCode}
-use Rattle.token_cursor.specs.declared.place.Place.{Place}
-use Rattle.token_cursor.specs.Forms.{Form}
-use Rattle.token_cursor.specs.Ahead.{Ahead, after, has_form, is_word, place_of}
-use Rattle.token_cursor.specs.Reading.{Fault, fails, read_to, one_at, rest_at, ends, word_at}
+use Rattle.ppddl_cursor.specs.declared.place.Place.{Place}
+use Rattle.ppddl_cursor.specs.Forms.{Form}
+use Rattle.ppddl_cursor.specs.Ahead.{Ahead, after, has_form, is_word, place_of}
+use Rattle.ppddl_cursor.specs.Reading.{Fault, fails, read_to, one_at, rest_at, ends, word_at}
 use Rattle.ppddl_forms.specs.Sequences.{by_word, or_word, many_behind, refused, each_to}
 
 abbrev pub ByWordIsRead : {A : Type 0} → (List ℕ → Bool) → (Form → Result A Fault) → (Form → Result A Fault) → Type 0

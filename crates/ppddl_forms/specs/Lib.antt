@@ -7,3 +7,6 @@ pub mod Chances
 pub mod Costs
 pub mod Effects
 pub mod Laws
+pub mod names
+pub mod items
+pub mod objects

@@ -1,18 +1,18 @@
--- Readings that are put together, beside those of `token_cursor`.
+-- Readings that are put together, beside those of `ppddl_cursor`.
 --     by_word test x y        a word, as x reads it where it passes the test, and else as y does
 --     or_word w at other      this word, or what the other reads
 --     many_behind read seen   the list of what each form gives, behind what was read before
 --     refused code a          nothing is read; what stands at a is at fault
 --     each_to one finish s    each form by what is known before it, and what finish makes of that at the end of the group
-use Rattle.std.specs.Prelude.{ℕ, List, Bool, if◌then◌else◌, Result, Ok}
+use Rattle.std.specs.Prelude.{ℕ, List, Bool, if◌then◌else◌, Result}
 use Rattle.plain_list.specs.Results.{◌>>=◌}
 use Rattle.ppddl_model.specs.declared.refusal.TextCode.{TextCode}
 use Rattle.ppddl_model.specs.declared.refusal.TextCode.TheVariants.{Expected}
-use Rattle.token_cursor.specs.declared.place.Place.{Place}
-use Rattle.token_cursor.specs.Ahead.{same}
-use Rattle.token_cursor.specs.Forms.{Form, Forms, lone, group, none, more}
-use Rattle.token_cursor.specs.Reading.{Fault, fails}
-use Rattle.token_cursor.specs.Sequences.{each, adding}
+use Rattle.ppddl_cursor.specs.declared.place.Place.{Place}
+use Rattle.ppddl_cursor.specs.Ahead.{same}
+use Rattle.ppddl_cursor.specs.Forms.{Form, Forms, lone, group, none, more}
+use Rattle.ppddl_cursor.specs.Reading.{Fault, fails}
+use Rattle.ppddl_cursor.specs.Sequences.{each, adding}
 
 unfoldable pub by_word : {A : Type 0} → (List ℕ → Bool) → (Form → Result A Fault) → (Form → Result A Fault) → Form → Result A Fault
 by_word test x y (lone w a) = if test w then x (lone w a) else y (lone w a)

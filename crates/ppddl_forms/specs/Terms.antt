@@ -18,12 +18,12 @@ use Rattle.ppddl_model.specs.declared.tree.Param.{Param}
 use Rattle.ppddl_model.specs.declared.tree.PredicateDecl.{PredicateDecl}
 use Rattle.ppddl_model.specs.declared.tree.Term.{Term}
 use Rattle.ppddl_model.specs.declared.tree.Term.TheVariants.{Variable, Object}
-use Rattle.ppddl_names.specs.Declarations.{Declared, world_of, kind_named, predicate_named, kinds_fit}
-use Rattle.ppddl_names.specs.Sight.{kinds_in}
-use Rattle.token_cursor.specs.declared.place.Place.{Place}
-use Rattle.token_cursor.specs.Forms.{Form, Forms}
-use Rattle.token_cursor.specs.Reading.{Fault, fails}
-use Rattle.token_cursor.specs.Sequences.{of_word, in_group, one_then, giving, checking, located}
+use Rattle.ppddl_forms.specs.names.Declarations.{Declared, world_of, kind_named, predicate_named, kinds_fit}
+use Rattle.ppddl_forms.specs.names.Sight.{kinds_in}
+use Rattle.ppddl_cursor.specs.declared.place.Place.{Place}
+use Rattle.ppddl_cursor.specs.Forms.{Form, Forms}
+use Rattle.ppddl_cursor.specs.Reading.{Fault, fails}
+use Rattle.ppddl_cursor.specs.Sequences.{of_word, in_group, one_then, giving, checking, located}
 use Rattle.ppddl_forms.specs.declared.name.Name.{Name}
 use Rattle.ppddl_forms.specs.Sequences.{refused, each_to}
 use Rattle.ppddl_forms.specs.Words.{name}

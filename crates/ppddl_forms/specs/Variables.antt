@@ -12,12 +12,12 @@ use Rattle.ppddl_lex.specs.declared.keywords.TheConstants.{EITHER}
 use Rattle.ppddl_model.specs.declared.refusal.TextCode.TheVariants.{Expected, UnknownName, Twice}
 use Rattle.ppddl_model.specs.declared.tree.Param.{Param}
 use Rattle.ppddl_model.specs.WellFormed.{is_type}
-use Rattle.ppddl_names.specs.Declarations.{Declared}
-use Rattle.token_cursor.specs.declared.place.Place.{Place}
-use Rattle.token_cursor.specs.Ahead.{Ahead, same, after, place_of}
-use Rattle.token_cursor.specs.Forms.{Form, Forms}
-use Rattle.token_cursor.specs.Reading.{Fault, fails, one_at, read_to}
-use Rattle.token_cursor.specs.Sequences.{in_group, group_with, one_then, adding, checking, word_or_group}
+use Rattle.ppddl_forms.specs.names.Declarations.{Declared}
+use Rattle.ppddl_cursor.specs.declared.place.Place.{Place}
+use Rattle.ppddl_cursor.specs.Ahead.{Ahead, same, after, place_of}
+use Rattle.ppddl_cursor.specs.Forms.{Form, Forms}
+use Rattle.ppddl_cursor.specs.Reading.{Fault, fails, one_at, read_to}
+use Rattle.ppddl_cursor.specs.Sequences.{in_group, group_with, one_then, adding, checking, word_or_group}
 use Rattle.ppddl_forms.specs.declared.name.Name.{Name}
 use Rattle.ppddl_forms.specs.declared.symbols.TheConstants.{DASH, OBJECT}
 use Rattle.ppddl_forms.specs.Sequences.{or_word, many_behind, each_to}

@@ -14,10 +14,10 @@ use Rattle.ppddl_lex.specs.declared.keywords.TheConstants.{REWARD}
 use Rattle.ppddl_lex.specs.Words.{is_name, is_variable, is_flag}
 use Rattle.ppddl_model.specs.declared.refusal.TextCode.{TextCode}
 use Rattle.ppddl_model.specs.declared.refusal.TextCode.TheVariants.{Expected, Probability, Number}
-use Rattle.token_cursor.specs.declared.place.Place.{Place}
-use Rattle.token_cursor.specs.Forms.{Form}
-use Rattle.token_cursor.specs.Reading.{Fault, fails}
-use Rattle.token_cursor.specs.Sequences.{of_word, word_or_group, group_with, last, keyword}
+use Rattle.ppddl_cursor.specs.declared.place.Place.{Place}
+use Rattle.ppddl_cursor.specs.Forms.{Form}
+use Rattle.ppddl_cursor.specs.Reading.{Fault, fails}
+use Rattle.ppddl_cursor.specs.Sequences.{of_word, word_or_group, group_with, last, keyword}
 use Rattle.ppddl_forms.specs.declared.name.Name.{Name}
 
 unfoldable pub name : Form → Result Name Fault

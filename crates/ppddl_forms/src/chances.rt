@@ -2,16 +2,16 @@
 
 ghost use Rattle.std.specs.Prelude.{◌≡◌, ◌<◌, [], ◌∷◌, ◌++◌, IfOk, OnOk};
 ghost use Rattle.exact_fraction.specs.Numbers.{IsProbability};
-ghost use Rattle.token_cursor.specs.Ahead.{size};
-ghost use Rattle.token_cursor.specs.Reading.{Gives, ReadsOne};
+ghost use Rattle.ppddl_cursor.specs.Ahead.{size};
+ghost use Rattle.ppddl_cursor.specs.Reading.{Gives, ReadsOne};
 ghost use Rattle.ppddl_forms.specs.Chances.{within, next_chance};
 
 use crate::words::read_probability;
 use exact_fraction::lcm_within;
+use ppddl_cursor::{Cursor, Place};
 use ppddl_model::{Fraction, MOST_DENOMINATOR, TextCode, TextRefusal};
 use std::alloc::Global;
 use std::marker::Model;
-use token_cursor::{Cursor, Place};
 
 /// The chances of one `probabilistic` so far, which contracts see as their list.
 #[derive(Drop)]

@@ -1,18 +1,18 @@
 //! Conditions.
 
 ghost use Rattle.std.specs.Prelude.{◌≡◌, ◌<◌, OnOk};
-ghost use Rattle.token_cursor.specs.Ahead.{size};
-ghost use Rattle.token_cursor.specs.Reading.{ReadsOne, ReadsRest};
+ghost use Rattle.ppddl_cursor.specs.Ahead.{size};
+ghost use Rattle.ppddl_cursor.specs.Reading.{ReadsOne, ReadsRest};
 ghost use Rattle.ppddl_forms.specs.Conditions.{condition, condition_in, negation, conditions};
 ghost use Rattle.ppddl_forms.specs.Conditions.{implication, quantified, equality};
 
 use crate::condition_head::{ConditionHead, condition_head};
+use crate::names::{Names, Scope};
 use crate::terms::{read_atom_in, read_term};
 use crate::variables::read_variable_list;
+use ppddl_cursor::Cursor;
 use ppddl_model::{Boxed, Condition, List, Param, TextCode, TextRefusal};
-use ppddl_names::{Names, Scope};
 use std::alloc::Global;
-use token_cursor::Cursor;
 
 /// Reads `TERM TERM )` behind `=`.
 #[tactic(auto, using(crate::proofs::Steps::form_steps), unfolding(crate::specs::Conditions::equality))]

@@ -1,19 +1,19 @@
 //! Costs, and functions whose values are costs.
 
 ghost use Rattle.std.specs.Prelude.{◌≡◌, ◌<◌, OnOk};
-ghost use Rattle.token_cursor.specs.Ahead.{size};
-ghost use Rattle.token_cursor.specs.Reading.{ReadsOne, ReadsRest};
+ghost use Rattle.ppddl_cursor.specs.Ahead.{size};
+ghost use Rattle.ppddl_cursor.specs.Reading.{ReadsOne, ReadsRest};
 ghost use Rattle.ppddl_forms.specs.Costs.{bare_function, function_in, function_group, function_term};
 ghost use Rattle.ppddl_forms.specs.Costs.{is_named, amount_cost, function_cost, word_cost};
 ghost use Rattle.ppddl_forms.specs.Costs.{group_cost, cost_value, cost};
 
+use crate::names::{Names, Scope};
 use crate::terms::read_application;
 use crate::words::{read_amount, read_name, read_reward};
+use ppddl_cursor::{Cursor, Place, TokenKind};
 use ppddl_lex::{is_name, is_reserved};
 use ppddl_model::{Atom, Effect, List, MOST_COST, TextCode, TextRefusal};
-use ppddl_names::{Names, Scope};
 use std::alloc::Global;
-use token_cursor::{Cursor, Place, TokenKind};
 
 /// Reads the name of a function without parameters, with its place.
 #[tactic(auto, using(crate::proofs::Steps::form_steps), unfolding(crate::specs::Costs::bare_function))]

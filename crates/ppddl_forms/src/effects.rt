@@ -1,8 +1,8 @@
 //! Effects.
 
 ghost use Rattle.std.specs.Prelude.{◌≡◌, ◌<◌, [], OnOk};
-ghost use Rattle.token_cursor.specs.Ahead.{size};
-ghost use Rattle.token_cursor.specs.Reading.{ReadsOne, ReadsRest};
+ghost use Rattle.ppddl_cursor.specs.Ahead.{size};
+ghost use Rattle.ppddl_cursor.specs.Reading.{ReadsOne, ReadsRest};
 ghost use Rattle.ppddl_forms.specs.Effects.{deletion, effect, effect_in, effects};
 ghost use Rattle.ppddl_forms.specs.Effects.{for_all, conditional, branches};
 
@@ -10,12 +10,12 @@ use crate::chances::{Chances, read_chance};
 use crate::conditions::read_condition;
 use crate::costs::read_cost;
 use crate::effect_head::{EffectHead, effect_head};
+use crate::names::{Names, Scope};
 use crate::terms::{read_atom, read_atom_in};
 use crate::variables::read_variable_list;
+use ppddl_cursor::Cursor;
 use ppddl_model::{Boxed, Branch, Effect, List, TextCode, TextRefusal};
-use ppddl_names::{Names, Scope};
 use std::alloc::Global;
-use token_cursor::Cursor;
 
 /// Reads `ATOM )` behind `not`.
 #[tactic(auto, using(crate::proofs::Steps::form_steps), unfolding(crate::specs::Effects::deletion))]

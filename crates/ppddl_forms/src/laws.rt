@@ -2,12 +2,12 @@
 
 ghost use Rattle.std.specs.Prelude.{List, ℕ, Bool, Result};
 ghost use Rattle.ppddl_model.specs.declared.refusal.TextCode.{TextCode};
-ghost use Rattle.token_cursor.specs.declared.place.Place.{Place};
-ghost use Rattle.token_cursor.specs.Reading.{Fault, ReaderOfOne};
+ghost use Rattle.ppddl_cursor.specs.declared.place.Place.{Place};
+ghost use Rattle.ppddl_cursor.specs.Reading.{Fault, ReaderOfOne};
 ghost use Rattle.ppddl_forms.specs.Laws.{ByWordIsRead, OrWordIsRead, RefusedIsRead};
 ghost use Rattle.ppddl_forms.specs.Laws.{ManyBehindIsRead, EachToIsRead};
 
-/// What is read of forms is what a walk over them reads step by step, beside `reading_laws` of `token_cursor`.
+/// What is read of forms is what a walk over them reads step by step, beside `reading_laws` of `ppddl_cursor`.
 pub fn sequence_laws<A, B>()
     ensures by_word { (test : List ℕ → Bool) (x y : ReaderOfOne A) → ByWordIsRead test x y }
     ensures or_word { (w : List ℕ) (at : Place → Result A Fault) (other : ReaderOfOne A)

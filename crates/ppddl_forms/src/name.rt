@@ -1,7 +1,7 @@
 //! Names and variables with their places.
 
+use ppddl_cursor::Place;
 use ppddl_model::Text;
-use token_cursor::Place;
 
 /// A name or a variable in lower case, and where it stands.
 #[derive(Drop, Debug)]

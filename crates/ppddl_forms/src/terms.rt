@@ -1,19 +1,19 @@
 //! Terms and atoms.
 
 ghost use Rattle.std.specs.Prelude.{◌≡◌, ◌<◌, slice_get, is_some, OnOk};
-ghost use Rattle.token_cursor.specs.Ahead.{size};
-ghost use Rattle.token_cursor.specs.Reading.{Gives, ReadsOne, ReadsRest};
+ghost use Rattle.ppddl_cursor.specs.Ahead.{size};
+ghost use Rattle.ppddl_cursor.specs.Reading.{Gives, ReadsOne, ReadsRest};
 ghost use Rattle.ppddl_forms.specs.Terms.{term_kinds, plain_term, term, fitted, argument};
 ghost use Rattle.ppddl_forms.specs.Terms.{arguments, applied, atom_in, atom};
 
 use crate::name::Name;
+use crate::names::{Names, Scope};
 use crate::words::read_name;
+use ppddl_cursor::{Cursor, Place};
 use ppddl_lex::{is_name, is_variable};
 use ppddl_model::{Atom, List, Param, Term, Text, TextCode, TextRefusal};
-use ppddl_names::{Names, Scope};
 use std::alloc::Global;
 use std::slice;
-use token_cursor::{Cursor, Place};
 
 /// Reads a variable or a name.
 #[tactic(auto, using(crate::proofs::Steps::form_steps), unfolding(crate::specs::Terms::plain_term))]

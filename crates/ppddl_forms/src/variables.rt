@@ -1,21 +1,21 @@
 //! Typed lists of variables.
 
 ghost use Rattle.std.specs.Prelude.{◌≡◌, ◌<◌, ◌≤◌, ◌-◌, ◌++◌, [], ◌∷◌, length, replicate, true, IfOk, OnOk};
-ghost use Rattle.token_cursor.specs.Ahead.{size, is_word};
-ghost use Rattle.token_cursor.specs.Reading.{Gives, ReadsOne, ReadsRest, one_at};
-ghost use Rattle.token_cursor.specs.Sequences.{adding};
+ghost use Rattle.ppddl_cursor.specs.Ahead.{size, is_word};
+ghost use Rattle.ppddl_cursor.specs.Reading.{Gives, ReadsOne, ReadsRest, one_at};
+ghost use Rattle.ppddl_cursor.specs.Sequences.{adding};
 ghost use Rattle.ppddl_forms.specs.Variables.{type_name, type_names, either_type, one_type};
 ghost use Rattle.ppddl_forms.specs.Variables.{types_of, types_at, other_variable};
 ghost use Rattle.ppddl_forms.specs.Variables.{params_of, variables, variable_list};
 
+use crate::names::Names;
 use crate::symbols::{DASH, OBJECT};
 use crate::words::{read_name, read_variable};
 use indexmap::IndexSet;
+use ppddl_cursor::{Cursor, TokenKind};
 use ppddl_lex::keywords;
 use ppddl_model::{List, Param, Text, TextCode, TextRefusal};
-use ppddl_names::Names;
 use std::alloc::{AllocError, Global};
-use token_cursor::{Cursor, TokenKind};
 
 /// Reads the name of a type.
 #[tactic(auto, using(crate::proofs::Steps::form_steps), unfolding(crate::specs::Variables::type_name))]

@@ -2,17 +2,17 @@
 
 ghost use Rattle.std.specs.Prelude.{◌≡◌, ◌<◌, IfOk, OnOk};
 ghost use Rattle.exact_fraction.specs.Numbers.{IsProbability};
-ghost use Rattle.token_cursor.specs.Ahead.{size};
-ghost use Rattle.token_cursor.specs.Reading.{ReadsOne};
+ghost use Rattle.ppddl_cursor.specs.Ahead.{size};
+ghost use Rattle.ppddl_cursor.specs.Reading.{ReadsOne};
 ghost use Rattle.ppddl_forms.specs.Words.{name, variable, flag, amount};
 ghost use Rattle.ppddl_forms.specs.Words.{probability, probability_code, reward};
 
 use crate::name::Name;
 use exact_fraction::{NumberRefusal, read_amount as amount_of, read_probability as probability_of};
+use ppddl_cursor::{Cursor, TokenKind};
 use ppddl_lex::{is_flag, is_name, is_variable, keywords};
 use ppddl_model::{Fraction, TextCode, TextRefusal};
 use std::alloc::Global;
-use token_cursor::{Cursor, TokenKind};
 
 /// Reads a name.
 #[tactic(auto, using(crate::proofs::Steps::form_steps), unfolding(crate::specs::Words::name))]

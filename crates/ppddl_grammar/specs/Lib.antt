@@ -1,7 +1,5 @@
-pub mod Words
-pub mod Terms
-pub mod Lists
-pub mod Conditions
-pub mod Effects
-pub mod Laws
-pub mod Examples
+pub mod fits
+pub mod sections
+pub mod definitions
+pub mod texts
+pub mod well_formed

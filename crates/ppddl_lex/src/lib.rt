@@ -17,6 +17,3 @@ pub use refusal::LexRefusal;
 pub use token::Token;
 pub use token_kind::TokenKind;
 pub use words::{is_flag, is_name, is_reserved, is_same_word, is_variable};
-
-#[cfg(test)]
-mod tests;

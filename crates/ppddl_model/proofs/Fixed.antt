@@ -4,7 +4,7 @@ use Rattle.std.specs.Prelude.{All, Contains, filter, flat_map}
 use Rattle.std.specs.List.{list_any}
 use Rattle.std.proofs.lemmas.List.Folds.{list_any-append, list_any_none}
 use Rattle.std.proofs.lemmas.List.Elements.{All-nil, All-cons, All-head, All-tail, All-append, All-map, All-weaker, All-contains, All-contains_itself}
-use Rattle.weighted.specs.Mean.{total, products}
+use Rattle.plain_list.specs.weighted.Mean.{total, products}
 use Rattle.decision_process.specs.Process.{Outcome, Start}
 use Rattle.decision_process.specs.Levels.{nexts, successors, near, IsReachable}
 use Rattle.ppddl_model.specs.declared.tree.Atom.{Atom}

@@ -4,14 +4,14 @@
 
 ghost use Rattle.std.specs.Prelude.{◌≡◌, ◌≢◌, ◌⊎◌, ◌↔◌, map, None, IfOk, string_bytes};
 ghost use Rattle.shelf_io.specs.Causes.{Rose};
-ghost use Rattle.plan_stop.specs.declared.status.TheConstants.{BAD_WORDS, WRITE_FAILED};
-ghost use Rattle.plan_stop.specs.declared.status.TheConstants.{NO_MEMORY};
+ghost use Rattle.plan_request.specs.declared.stop.status.TheConstants.{BAD_WORDS, WRITE_FAILED};
+ghost use Rattle.plan_request.specs.declared.stop.status.TheConstants.{NO_MEMORY};
 ghost use Rattle.plan_request.specs.Asked.{Solving, request_of};
 ghost use Rattle.plan_app.specs.Asking.{IsToSearch, IsToServe};
 ghost use Rattle.plan_app.specs.Endings.{LeavesForWords};
 
 use plan_app::run;
-use plan_stop::NO_MEMORY;
+use plan_request::NO_MEMORY;
 use shelf_io::{FolderShelf, FreeGate, InputSource, OutputSink, Shelf, Sink, Source};
 use std::alloc::{AllocError, Global};
 use std::env;

@@ -2,14 +2,14 @@
 use Rattle.std.proofs.Common.{◌≡◌, ℕ, ◌≤◌, nat_eq, ◌&&◌, List, length, Some, None, refl, sym, ap, ◌∙◌, subst, arith}
 use Rattle.std.specs.Prelude.{IsTrue, is_some}
 use Rattle.ground_model.specs.Packed.{State}
-use Rattle.word_layout.specs.declared.layout.Layout.{Layout}
-use Rattle.word_view.specs.declared.notes.Look.TheVariants.{End, Empty}
-use Rattle.word_view.specs.declared.notes.StateWord.{StateWord}
-use Rattle.word_view.specs.declared.view.View.{View}
-use Rattle.word_view.specs.Views.{has_words, has_state, IsWritten, IsClear, IsReached, CanPublish}
-use Rattle.word_view.specs.Steps.{with_count, with_spare, with_published}
-use Rattle.word_view.proofs.Noting.{draft_is_had}
-use Rattle.word_rule.specs.Told.{TellsCount}
+use Rattle.word_table.specs.declared.layout.Layout.{Layout}
+use Rattle.word_table.specs.declared.view.notes.Look.TheVariants.{End, Empty}
+use Rattle.word_table.specs.declared.view.notes.StateWord.{StateWord}
+use Rattle.word_table.specs.declared.view.View.{View}
+use Rattle.word_table.specs.view.Views.{has_words, has_state, IsWritten, IsClear, IsReached, CanPublish}
+use Rattle.word_table.specs.view.Steps.{with_count, with_spare, with_published}
+use Rattle.word_table.proofs.lemmas.view.Noting.{draft_is_had}
+use Rattle.word_table.specs.rule.Told.{TellsCount}
 use Rattle.word_table.specs.Seen.{Board, Knowledge, HasMoved, knowledge}
 use Rattle.state_interner.specs.declared.turn.Turn.{Turn}
 use Rattle.state_interner.specs.declared.turn.Turn.TheVariants.{Own, Other, Free}
@@ -55,16 +55,6 @@ claims_more b old now new from found claims moved = counted b old now new found 
 pub claim_goes : (b : Board) (old now new : Knowledge) (from : ℕ) → Claims b old now from → new ≡ knowledge now.table (with_spare now.view from) → GoesOn b old new
 claim_goes b old now new from claims is =
     goes_then b old now new claims.goes (spare_goes b now new claims.goes.here from (let same = claims.count in omega arith) is)
-
-pub claims_end : (b : Board) (old now : Knowledge) (from : ℕ) → Claims b old now from → b.layout.ids ≤ from → IsEnd old.view now.view
-claims_end b old now from claims all =
-    let within = claims.within in
-    let is : from ≡ b.layout.ids = omega arith in record {
-      end = claims.end is;
-      count = claims.count ∙ (is ∙ sym (ap (λ (l : Layout). l.ids) claims.goes.here.view.layout));
-      spare = claims.spare;
-      words = claims.words;
-    }
 
 -- ---- states that are put
 

@@ -3,15 +3,15 @@ use Rattle.std.proofs.Common.{◌≡◌, ℕ, ◌≤◌, cond, nat_eq, List, [],
 use Rattle.std.proofs.lemmas.Bool.{cases_Bool, eq-eqb}
 use Rattle.std.proofs.lemmas.List.{append_assoc}
 use Rattle.std.proofs.lemmas.List.Elements.{Contains-append_left, Contains-append_right}
-use Rattle.word_view.specs.declared.notes.Look.{Look}
-use Rattle.word_view.specs.declared.notes.Look.TheVariants.{End, Empty}
-use Rattle.word_view.specs.declared.notes.StateWord.{StateWord}
-use Rattle.word_view.specs.declared.notes.Written.{Written}
-use Rattle.word_view.specs.declared.view.View.{View}
-use Rattle.word_view.specs.Steps.{with_held, with_empty, with_count, with_spare, with_published, with_upper}
-use Rattle.word_view.specs.Laws.{HasMore}
-use Rattle.word_view.proofs.Lists.{is_first}
-use Rattle.word_view.proofs.Noting.{noted_is_more, has_word_right}
+use Rattle.word_table.specs.declared.view.notes.Look.{Look}
+use Rattle.word_table.specs.declared.view.notes.Look.TheVariants.{End, Empty}
+use Rattle.word_table.specs.declared.view.notes.StateWord.{StateWord}
+use Rattle.word_table.specs.declared.view.notes.Written.{Written}
+use Rattle.word_table.specs.declared.view.View.{View}
+use Rattle.word_table.specs.view.Steps.{with_held, with_empty, with_count, with_spare, with_published, with_upper}
+use Rattle.word_table.specs.view.Laws.{HasMore}
+use Rattle.word_table.proofs.lemmas.view.Lists.{is_first}
+use Rattle.word_table.proofs.lemmas.view.Noting.{noted_is_more, has_word_right}
 use Rattle.word_table.specs.Seen.{Board, Knowledge, IsOf, knowledge}
 use Rattle.state_interner.specs.Interned.{AddsLooks, HasLooked, GoesOn}
 use Rattle.state_interner.specs.Turns.{with_words, with_draft, NotesWords}

@@ -1,10 +1,10 @@
 -- What two passes have, by one that has met both.
 use Rattle.std.proofs.Common.{◌≡◌, ap, sym, ◌∙◌, subst}
-use Rattle.word_view.specs.declared.view.View.{View}
-use Rattle.word_view.specs.Steps.{united, without_rights}
-use Rattle.word_view.proofs.Seen.{has_state_more}
-use Rattle.word_view.proofs.Noting.{united_is_more}
-use Rattle.word_rule.specs.Told.{HasOneEach}
+use Rattle.word_table.specs.declared.view.View.{View}
+use Rattle.word_table.specs.view.Steps.{united, without_rights}
+use Rattle.word_table.proofs.lemmas.view.Seen.{has_state_more}
+use Rattle.word_table.proofs.lemmas.view.Noting.{united_is_more}
+use Rattle.word_table.specs.rule.Told.{HasOneEach}
 use Rattle.word_table.specs.Seen.{Board, Knowledge, IsOf, knowledge, with_rights}
 use Rattle.state_interner.specs.Interned.{HaveOneEach}
 

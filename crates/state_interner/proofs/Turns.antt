@@ -15,22 +15,22 @@ use Rattle.ground_model.specs.Ground.{Ground}
 use Rattle.ground_model.specs.Steps.{ground_process, outcome_of, step_at}
 use Rattle.ground_model.proofs.Packed.{length-packed}
 use Rattle.ground_step.specs.Hash.{hash_of}
-use Rattle.word_layout.specs.declared.layout.Layout.{Layout}
-use Rattle.word_layout.specs.Places.{turn}
-use Rattle.word_view.specs.declared.notes.Look.TheVariants.{Empty}
-use Rattle.word_view.specs.declared.view.View.{View}
-use Rattle.word_view.specs.Views.{knows, held, has_words, has_state, IsOther, IsClear, IsReached}
-use Rattle.word_view.specs.Steps.{with_held, with_empty}
-use Rattle.word_view.specs.Laws.{HasMore}
-use Rattle.word_view.proofs.Lists.{is_first}
-use Rattle.word_view.proofs.Seen.{has_state_more}
-use Rattle.word_rule.specs.Told.{HasRoom, TellsNone}
-use Rattle.word_table.specs.Seen.{Board, Knowledge, IsOf, knowledge}
+use Rattle.word_table.specs.declared.layout.Layout.{Layout}
+use Rattle.word_table.specs.layout.Places.{turn}
+use Rattle.word_table.specs.declared.view.notes.Look.TheVariants.{Empty}
+use Rattle.word_table.specs.declared.view.View.{View}
+use Rattle.word_table.specs.view.Views.{knows, held, has_words, has_state, IsOther, IsClear, IsReached}
+use Rattle.word_table.specs.view.Steps.{with_held, with_empty}
+use Rattle.word_table.specs.view.Laws.{HasMore}
+use Rattle.word_table.proofs.lemmas.view.Lists.{is_first}
+use Rattle.word_table.proofs.lemmas.view.Seen.{has_state_more}
+use Rattle.word_table.specs.rule.Told.{HasRoom, TellsNone}
+use Rattle.word_table.specs.Seen.{Board, Knowledge, knowledge}
 use Rattle.state_interner.specs.declared.turn.Turn.{Turn}
 use Rattle.state_interner.specs.declared.turn.Turn.TheVariants.{Own, Other, Free}
 use Rattle.state_interner.specs.Interned.{GoesOn, IsMissing}
 use Rattle.state_interner.specs.Turns.{NotesWords, CompareTells, TurnTells}
-use Rattle.state_interner.proofs.Going.{goes_nowhere, goes_then, looked_since}
+use Rattle.state_interner.proofs.Going.{goes_then, looked_since}
 
 -- ---- what stays
 
@@ -143,9 +143,6 @@ pub turn_is : (l : Layout) (s : State) (hash n m k : ℕ) → hash ≡ hash_of s
 turn_is l s hash n m k is buckets same =
     ap (λ h. (h % n + k) % m) is
     ∙ (ap (λ i. (hash_of s % i + k) % m) buckets ∙ (ap (λ i. (hash_of s % l.buckets + k) % i) same ∙ same_turn l (hash_of s) k))
-
-pub walk_begins : (b : Board) (k : Knowledge) (s : State) → IsOf b k → Walks b k k s 0
-walk_begins b k s here = record { goes = goes_nowhere b k here; others = λ m below. absurd (omega arith); room = λ some. absurd (omega arith) }
 
 pub walk_is_clear : (b : Board) (old now : Knowledge) (s : State) (turns bucket : ℕ) → Walks b old now s turns
     → bucket ≡ turn b.layout (hash_of s) turns → IsClear now.view s bucket

@@ -1,18 +1,18 @@
 -- States that are compared and written word by word.
-use Rattle.std.proofs.Common.{◌≡◌, ◌≢◌, ℕ, suc, ◌+◌, ◌<◌, ◌≤◌, true, cond, ◌&&◌, nat_eq, List, [], ◌∷◌, length, Some, refl, sym, ap, ◌∙◌, subst, arith}
+use Rattle.std.proofs.Common.{◌≡◌, ℕ, suc, ◌+◌, ◌<◌, ◌≤◌, true, ◌&&◌, nat_eq, List, [], ◌∷◌, length, Some, refl, sym, ap, ◌∙◌, subst, arith}
 use Rattle.std.specs.Prelude.{IsTrue, get_or}
-use Rattle.std.proofs.lemmas.Bool.{eq-eqb, ne_eqb}
+use Rattle.std.proofs.lemmas.Bool.{eq-eqb}
 use mathlib.Core.Logic.{dite}
 use native.Mathlib.Decide.{ℕ_discrete}
 use Rattle.ground_model.specs.Packed.{State}
-use Rattle.word_layout.specs.declared.layout.Layout.{Layout}
-use Rattle.word_view.specs.declared.notes.StateWord.{StateWord}
-use Rattle.word_view.specs.declared.view.View.{View}
-use Rattle.word_view.specs.Views.{is_word, has_word, has_words, has_state, state_word, written, written_at, IsWritten}
-use Rattle.word_view.specs.Steps.{with_state_word, with_written}
-use Rattle.word_view.proofs.Lists.{both, either_first, either_second}
+use Rattle.word_table.specs.declared.layout.Layout.{Layout}
+use Rattle.word_table.specs.declared.view.notes.StateWord.{StateWord}
+use Rattle.word_table.specs.declared.view.View.{View}
+use Rattle.word_table.specs.view.Views.{is_word, has_word, has_words, has_state, state_word, written_at}
+use Rattle.word_table.specs.view.Steps.{with_state_word}
+use Rattle.word_table.proofs.lemmas.view.Lists.{both, either_first, either_second}
 use Rattle.word_table.specs.Seen.{Knowledge, knowledge}
-use Rattle.state_interner.specs.Turns.{NotesWords, WritesDraft, Differs, with_draft}
+use Rattle.state_interner.specs.Turns.{NotesWords, WritesDraft}
 
 -- ---- comparing
 
@@ -56,9 +56,6 @@ module _ (old now new : Knowledge) (id : ℕ) (s : State) (place x : ℕ) (so_fa
         (either_second (is_word id p (get_or s p 0) (state_word id place x)) (has_word now.view.words id p (get_or s p 0)) (so_far.same p (omega arith))));
   }
 
-  pub word_differs : x ≢ get_or s place 0 → Differs new.view id s
-  word_differs other = record { place = place; word = x; noted = found place x refl refl; differs = other }
-
 pub all_compared : (old now : Knowledge) (id : ℕ) (s : State) (place : ℕ) → Compares old now id s place → length s ≤ place
     → length s ≡ old.view.layout.width → IsTrue (has_state now.view id s)
 all_compared old now id s place so_far all wide =
@@ -74,20 +71,3 @@ all_compared old now id s place so_far all wide =
 pub record Writes (old now : Knowledge) (s : State) (place : ℕ) : Type 0 where
   pub seen : WritesDraft old now
   pub same : (p : ℕ) → p < place → written_at now.view.draft p ≡ Some (get_or s p 0)
-
-pub writes_more : (old now new : Knowledge) (s : State) (place x : ℕ) → Writes old now s place
-    → new ≡ knowledge now.table (with_written now.view place x) → x ≡ get_or s place 0 → Writes old new s (place + 1)
-writes_more old now new s place x so_far is same = record {
-  seen = (written place x ∷ now.view.draft, is ∙ ap (λ (k : Knowledge). knowledge k.table (with_draft (written place x ∷ now.view.draft) k.view)) so_far.seen.1);
-  same = λ p below. subst (λ (k : Knowledge). written_at k.view.draft p ≡ Some (get_or s p 0)) (sym is)
-      (dite (ℕ_discrete p place)
-      (λ at. ap (λ b. cond b (Some x) (written_at now.view.draft p)) (eq-eqb p place at) ∙ ap Some (same ∙ ap (λ i. get_or s i 0) (sym at)))
-      (λ other. ap (λ b. cond b (Some x) (written_at now.view.draft p)) (ne_eqb p place other) ∙ so_far.same p (omega arith)));
-}
-
-pub all_written : (old now : Knowledge) (s : State) (place : ℕ) → Writes old now s place → length s ≤ place
-    → length s ≡ old.view.layout.width → IsWritten now.view s
-all_written old now s place so_far all wide = record {
-  whole = wide ∙ sym (ap (λ (k : Knowledge). k.view.layout.width) so_far.seen.1);
-  words = λ p below. so_far.same p (omega arith);
-}

@@ -12,11 +12,11 @@ use Rattle.std.specs.Prelude.{◌≡◌, ℕ, ◌≤◌, true, None, List, ◌++
 use Rattle.ground_model.specs.Packed.{State}
 use Rattle.ground_model.specs.Steps.{ground_process}
 use Rattle.bound_core.specs.Numbers.{goal_word}
-use Rattle.word_view.specs.declared.notes.Look.{Look}
-use Rattle.word_view.specs.declared.notes.Look.TheVariants.{End, Empty}
-use Rattle.word_view.specs.declared.view.View.{View}
-use Rattle.word_view.specs.Views.{knows, has_state, noted_upper, IsClear}
-use Rattle.word_view.specs.Laws.{HasMore}
+use Rattle.word_table.specs.declared.view.notes.Look.{Look}
+use Rattle.word_table.specs.declared.view.notes.Look.TheVariants.{End, Empty}
+use Rattle.word_table.specs.declared.view.View.{View}
+use Rattle.word_table.specs.view.Views.{knows, has_state, noted_upper, IsClear}
+use Rattle.word_table.specs.view.Laws.{HasMore}
 use Rattle.word_table.specs.Seen.{Board, Knowledge, IsOf}
 use Rattle.state_interner.specs.declared.interned.Interned.{Interned}
 use Rattle.state_interner.specs.declared.interned.Interned.TheVariants.{Id, Full}

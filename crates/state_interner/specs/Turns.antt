@@ -10,12 +10,12 @@
 --     SpareTells v spare w       what taking a spare tells
 use Rattle.std.specs.Prelude.{◌≡◌, ◌≢◌, ℕ, Option, Some, None, List, ◌++◌, get_or, IsTrue}
 use Rattle.ground_model.specs.Packed.{State}
-use Rattle.word_view.specs.declared.notes.StateWord.{StateWord}
-use Rattle.word_view.specs.declared.notes.Written.{Written}
-use Rattle.word_view.specs.declared.notes.Look.TheVariants.{End}
-use Rattle.word_view.specs.declared.view.View.{View}
-use Rattle.word_view.specs.Views.{has_word, has_state, IsOther}
-use Rattle.word_rule.specs.Told.{HasRoom}
+use Rattle.word_table.specs.declared.view.notes.StateWord.{StateWord}
+use Rattle.word_table.specs.declared.view.notes.Written.{Written}
+use Rattle.word_table.specs.declared.view.notes.Look.TheVariants.{End}
+use Rattle.word_table.specs.declared.view.View.{View}
+use Rattle.word_table.specs.view.Views.{has_word, has_state, IsOther}
+use Rattle.word_table.specs.rule.Told.{HasRoom}
 use Rattle.word_table.specs.Seen.{Knowledge, knowledge}
 use Rattle.state_interner.specs.declared.turn.Turn.{Turn}
 use Rattle.state_interner.specs.declared.turn.Turn.TheVariants.{Own, Other, Free}

@@ -1,7 +1,7 @@
 //! Hints for the states that have ids already.
 
 ghost use Rattle.std.specs.Prelude.{◌≡◌, ◌<◌};
-ghost use Rattle.word_view.specs.Views.{knows};
+ghost use Rattle.word_table.specs.view.Views.{knows};
 ghost use Rattle.word_table.specs.Seen.{IsOf};
 ghost use Rattle.state_interner.specs.Interned.{GoesOn};
 ghost use Rattle.state_interner.specs.Turns.{NotesWords};

@@ -1,7 +1,7 @@
 //! Ids of states, given out where a state has none.
 
 ghost use Rattle.std.specs.Prelude.{◌≡◌, ◌<◌, length};
-ghost use Rattle.word_view.specs.Views.{IsClear, IsReached};
+ghost use Rattle.word_table.specs.view.Views.{IsClear, IsReached};
 ghost use Rattle.word_table.specs.Seen.{IsOf};
 ghost use Rattle.state_interner.specs.Interned.{GoesOn, IsFull, InternTells};
 ghost use Rattle.state_interner.specs.Turns.{TurnTells};

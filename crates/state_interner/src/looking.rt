@@ -1,7 +1,7 @@
 //! Looks at one bucket of the run of a state.
 
 ghost use Rattle.std.specs.Prelude.{◌≡◌, ◌<◌, length};
-ghost use Rattle.word_view.specs.Views.{knows, IsClear};
+ghost use Rattle.word_table.specs.view.Views.{knows, IsClear};
 ghost use Rattle.word_table.specs.Seen.{IsOf};
 ghost use Rattle.state_interner.specs.Interned.{GoesOn, IsMissing};
 ghost use Rattle.state_interner.specs.Turns.{NotesWords, CompareTells, TurnTells};

@@ -1,8 +1,8 @@
 //! Ids of states, looked for in the buckets where they were found before.
 
 ghost use Rattle.std.specs.Prelude.{◌≡◌, ◌<◌, length, IfSome, IfNone};
-ghost use Rattle.word_view.specs.Views.{IsReached};
-ghost use Rattle.word_rule.specs.Rule.{IsTable};
+ghost use Rattle.word_table.specs.view.Views.{IsReached};
+ghost use Rattle.word_table.specs.rule.Rule.{IsTable};
 ghost use Rattle.word_table.specs.Seen.{IsOf};
 ghost use Rattle.state_interner.specs.Interned.{GoesOn, HasOwn, IsIdOf, IsMissing, InternTells};
 

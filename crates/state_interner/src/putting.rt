@@ -1,7 +1,7 @@
 //! States that are put into empty buckets.
 
 ghost use Rattle.std.specs.Prelude.{◌≡◌, ◌<◌, length, IsSome};
-ghost use Rattle.word_view.specs.Views.{IsWritten, IsClear, IsReached};
+ghost use Rattle.word_table.specs.view.Views.{IsWritten, IsClear, IsReached};
 ghost use Rattle.word_table.specs.Seen.{IsOf};
 ghost use Rattle.state_interner.specs.Interned.{GoesOn};
 ghost use Rattle.state_interner.specs.Turns.{WritesDraft, IsEnd, TurnTells};

@@ -6,23 +6,23 @@ use Rattle.std.proofs.lemmas.Bool.{cases_Bool}
 use Rattle.std.proofs.lemmas.Option.{slice_get-get_or}
 use Rattle.fixed_round.specs.Words.{value_of}
 use Rattle.decision_process.specs.Rounded.{up}
-use Rattle.sweep_levels.specs.Sweeps.{IsFirst, AreSwept, HasRounds}
-use Rattle.sweep_levels.specs.Sweeps as sweeps
-use Rattle.sweep_levels.specs.Laws.{states_of}
-use Rattle.sweep_levels.proofs.Rounds.{narrower_has_rounds, rounds_begin, round_goes_on}
+use Rattle.decision_process.specs.sweeps.Sweeps.{IsFirst}
+use Rattle.decision_process.specs.sweeps.Sweeps as sweeps
+use Rattle.decision_process.specs.sweeps.Laws.{states_of}
+use Rattle.decision_process.proofs.lemmas.sweeps.Rounds.{narrower_has_rounds, rounds_begin, round_goes_on}
 use Rattle.ground_model.specs.declared.start.Start.{Start}
 use Rattle.ground_model.specs.Packed.{State}
 use Rattle.ground_model.specs.Ground.{Ground}
 use Rattle.ground_model.specs.Steps.{ground_process, ground_starts, start_of}
 use Rattle.bound_core.specs.Numbers.{first_word}
-use Rattle.word_view.specs.declared.view.View.{View}
-use Rattle.word_view.specs.Views.{knows, seen_lower, seen_upper}
-use Rattle.word_view.specs.Laws.{HasMore}
-use Rattle.word_view.proofs.Seen.{more_is_later}
+use Rattle.word_table.specs.declared.view.View.{View}
+use Rattle.word_table.specs.view.Views.{knows, seen_lower, seen_upper}
+use Rattle.word_table.specs.view.Laws.{HasMore}
+use Rattle.word_table.proofs.lemmas.view.Seen.{more_is_later}
 use Rattle.word_table.specs.Seen.{Board, IsOf}
 use Rattle.bellman_backup.specs.Backups.{Narrows}
 use Rattle.bellman_backup.proofs.NextRead.{first_at_goal, first_off_goal, seen_within_first}
-use Rattle.start_means.specs.Means.{HasStarts, seen_value}
+use Rattle.bellman_backup.specs.means.Means.{HasStarts, seen_value}
 use Rattle.trial_workers.specs.declared.extent.Extent.{Extent}
 use Rattle.trial_workers.specs.declared.parts.Division.{Division}
 use Rattle.trial_workers.specs.declared.worker.Worker.{Worker}

@@ -3,28 +3,20 @@ use Rattle.std.proofs.Common.{◌≡◌, ℕ, ◌+◌, ◌≤◌, sym, subst, ar
 use mathlib.Core.Logic.{dite}
 use native.Mathlib.Decide.{ℕ_discrete}
 use Rattle.ground_model.specs.Ground.{Ground}
-use Rattle.word_view.specs.declared.view.View.{View}
-use Rattle.word_view.specs.Laws.{HasMore}
-use Rattle.word_table.specs.Seen.{Board, Knowledge, IsOf}
+use Rattle.word_table.specs.declared.view.View.{View}
+use Rattle.word_table.specs.view.Laws.{HasMore}
+use Rattle.word_table.specs.Seen.{Board, Knowledge}
 use Rattle.bellman_backup.specs.Scratches.{ScratchView, IsScratchOf}
 use Rattle.bellman_backup.specs.Races.{has_all}
 use Rattle.bellman_backup.specs.Backups.{Keeps, Narrows}
 use Rattle.trial_workers.specs.Workers.{Stays, HasSwept}
-use Rattle.trial_workers.proofs.Passes.{stays_all, stays_again, keeps_stays, narrows_wider}
+use Rattle.trial_workers.proofs.Passes.{stays_again, keeps_stays, narrows_wider}
 
 pub record Sweeping (b : Board) (k l : Knowledge) (y : ScratchView) (id past : ℕ) : Type 0 where
   pub stays : Stays b k l
   pub of : IsScratchOf b y
   pub within : id ≤ past
   pub swept : HasSwept b.problem id past k.view l.view
-
-pub sweep_begins : (b : Board) (k : Knowledge) (x : ScratchView) (past : ℕ) → IsOf b k → IsScratchOf b x → Sweeping b k k x past past
-sweep_begins b k x past here of = record {
-  stays = stays_all b k here;
-  of = of;
-  within = omega arith;
-  swept = λ j from below. absurd (omega arith);
-}
 
 pub one_id_more : (b : Board) (k l m : Knowledge) (y z : ScratchView) (id here past : ℕ) → here + 1 ≡ id → Sweeping b k l y id past
     → Keeps b l m → IsScratchOf b z → Narrows b.problem l.view m.view here → Sweeping b k m z here past

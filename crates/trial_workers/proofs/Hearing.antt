@@ -3,14 +3,14 @@ use Rattle.std.proofs.Common.{◌≡◌, ℕ, zero, suc, ◌+◌, ◌<◌, ◌�
 use Rattle.std.proofs.lemmas.List.{length-set, get_or-set_same, get_or-set_other, set-get_or}
 use mathlib.Core.Logic.{dite}
 use native.Mathlib.Decide.{ℕ_discrete}
-use Rattle.word_view.specs.declared.view.View.{View}
-use Rattle.word_view.specs.Laws.{HasMore}
+use Rattle.word_table.specs.declared.view.View.{View}
+use Rattle.word_table.specs.view.Laws.{HasMore}
 use Rattle.word_table.specs.Seen.{Board, Knowledge, IsOf}
 use Rattle.bellman_backup.specs.Races.{has_more_again}
 use Rattle.trial_workers.specs.declared.parts.Division.{Division}
 use Rattle.trial_workers.specs.declared.worker.Worker.{Worker}
 use Rattle.trial_workers.specs.Workers.{Stays}
-use Rattle.trial_workers.specs.Rounds.{with_pass, IsPrepared, AllPrepared, HaveMet}
+use Rattle.trial_workers.specs.Rounds.{with_pass, IsPrepared, HaveMet}
 
 pub any_default : {X : Type 0} (l : List X) (i : ℕ) (d e : X) → i < length l → get_or l i d ≡ get_or l i e
 any_default [] i d e below = absurd (omega arith)
@@ -25,15 +25,6 @@ pub record Preparing (b : Board) (d : Division) (v : View) (os ns : List Worker)
   pub left : (k : ℕ) (e : Worker) → i ≤ k → k < length os → get_or ns k e ≡ get_or os k e
   pub here : IsOf b news
   pub noted : HasMore v news.view
-
-pub preparing_begins : (b : Board) (d : Division) (v : View) (os : List Worker) (news : Knowledge) → IsOf b news → HasMore v news.view → Preparing b d v os os 0 news
-preparing_begins b d v os news here noted = record {
-  long = refl;
-  done = λ k e below. absurd (omega arith);
-  left = λ k e from below. refl;
-  here = here;
-  noted = noted;
-}
 
 pub one_prepared : (b : Board) (d : Division) (v : View) (os ns : List Worker) (i : ℕ) (news : Knowledge) (w n : Worker) → i < length os → Preparing b d v os ns i news
     → IsPrepared b d news.view i (get_or ns i w) n → Preparing b d v os (slice_set ns i n) (i + 1) news
@@ -53,20 +44,12 @@ one_prepared b d v os ns i news w n below so p = record {
   noted = so.noted;
 }
 
-pub preparing_ends : (b : Board) (d : Division) (e : Worker) (os ns : List Worker) (i : ℕ) (news : Knowledge) → 0 < length os → length os ≤ i
-    → Preparing b d (get_or os 0 e).pass.view os ns i news → AllPrepared b d os ns
-preparing_ends b d e [] ns i news some past so = absurd (omega arith)
-preparing_ends b d e (o ∷ os) ns i news some past so = record { long = so.long; each = λ k f below. so.done k f (omega arith) }
-
 -- ---- behind the parts
 
 pub record Gathering (b : Board) (os ns : List Worker) (i : ℕ) (news : Knowledge) : Type 0 where
   pub same : ns ≡ os
   pub here : IsOf b news
   pub heard : (k : ℕ) (e : Worker) → k < i → HasMore (get_or os k e).pass.view news.view
-
-pub gathering_begins : (b : Board) (os : List Worker) (news : Knowledge) → IsOf b news → Gathering b os os 0 news
-gathering_begins b os news here = record { same = refl; here = here; heard = λ k e below. absurd (omega arith) }
 
 pub one_heard : (b : Board) (os ns : List Worker) (i : ℕ) (news more : Knowledge) (w : Worker) (p : Knowledge) → i < length os → Gathering b os ns i news
     → Stays b news more → HasMore (get_or ns i w).pass.view more.view → p ≡ (get_or ns i w).pass

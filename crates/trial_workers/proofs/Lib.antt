@@ -9,3 +9,4 @@ pub mod Looping
 pub mod Dividing
 pub mod Making
 pub mod Sending
+pub mod lemmas

@@ -1,14 +1,14 @@
 -- The loop of rounds, with a reading of the means behind each.
 use Rattle.std.proofs.Common.{◌≡◌, ℕ, ◌+◌, ◌-◌, ◌<◌, ◌≤◌, Option, List, [], ◌∷◌, length, get_or, slice_set, refl, subst, arith}
-use Rattle.sweep_levels.proofs.Rounds.{means_have_rounds}
+use Rattle.decision_process.proofs.lemmas.sweeps.Rounds.{means_have_rounds}
 use Rattle.ground_model.specs.Packed.{State}
 use Rattle.ground_model.specs.Ground.{Ground}
 use Rattle.ground_model.specs.Steps.{ground_process, ground_starts}
-use Rattle.word_view.specs.Views.{seen_lower}
-use Rattle.word_view.proofs.Seen.{has_state_more}
+use Rattle.word_table.specs.view.Views.{seen_lower}
+use Rattle.word_table.proofs.lemmas.view.Seen.{has_state_more}
 use Rattle.word_table.specs.Seen.{Board, Knowledge}
-use Rattle.start_means.specs.declared.means.Means.{Means}
-use Rattle.start_means.specs.Means.{seen_value}
+use Rattle.bellman_backup.specs.declared.means.Means.{Means}
+use Rattle.bellman_backup.specs.means.Means.{seen_value}
 use Rattle.trial_workers.specs.declared.effort.Effort.{Effort}
 use Rattle.trial_workers.specs.declared.effort.Solved.{Solved}
 use Rattle.trial_workers.specs.declared.extent.Extent.{Extent}

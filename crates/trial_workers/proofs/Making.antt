@@ -4,11 +4,11 @@ use Rattle.std.specs.Arc.{arc_value}
 use Rattle.std.proofs.lemmas.List.{length-append}
 use Rattle.ground_model.specs.Packed.{State}
 use Rattle.ground_model.specs.Ground.{Ground}
-use Rattle.word_view.specs.declared.view.View.{View}
-use Rattle.word_view.specs.Laws.{HasMore}
-use Rattle.word_view.specs.Steps.{without_rights}
-use Rattle.word_view.proofs.Seen.{has_state_more}
-use Rattle.word_view.proofs.Noting.{noted_is_more}
+use Rattle.word_table.specs.declared.view.View.{View}
+use Rattle.word_table.specs.view.Laws.{HasMore}
+use Rattle.word_table.specs.view.Steps.{without_rights}
+use Rattle.word_table.proofs.lemmas.view.Seen.{has_state_more}
+use Rattle.word_table.proofs.lemmas.view.Noting.{noted_is_more}
 use Rattle.word_table.specs.Seen.{Board, Knowledge, knowledge, IsOf, with_rights}
 use Rattle.brtdp_trial.specs.declared.run.Run.{Run}
 use Rattle.kept_transitions.specs.Rows.{Transitions}
@@ -73,9 +73,6 @@ one_more P [] x all one (suc i) d below = absurd (omega arith)
 one_more P (y ∷ ys) x all one zero d below = all 0 d (omega arith)
 one_more P (y ∷ ys) x all one (suc i) d below = one_more P ys x (λ k e inside. all (suc k) e (omega arith)) one i d (omega arith)
 
-pub desks_begin : (g : Ground) (t : Transitions) (depth : ℕ) → AreDesks g t depth 0 []
-desks_begin g t depth = record { count = refl; each = λ k d below. absurd (omega arith) }
-
 pub one_desk_more : (g : Ground) (t : Transitions) (depth n : ℕ) (desks : List Desk) (desk : Desk) → AreDesks g t depth n desks → IsDesk g t depth desk
     → AreDesks g t depth (n + 1) (desks ++ desk ∷ [])
 one_desk_more g t depth n desks desk so is = record {
@@ -100,15 +97,6 @@ pub record Seating (b : Board) (k : Knowledge) (t : Transitions) (n depth : ℕ)
   pub fit : All (IsDesk b.problem t depth) desks
   pub pass : k' ≡ knowledge k.table (with_rights (n - i) k.view)
 
-pub seating_begins : (b : Board) (k : Knowledge) (t : Transitions) (n depth : ℕ) (desks : List Desk) → k.view.rights ≡ n → AreDesks b.problem t depth n desks
-    → Seating b k t n depth 0 desks [] k
-seating_begins b k t n depth desks rights are = record {
-  seated = record { count = refl; each = λ j d below. absurd (omega arith) };
-  left = (let c = are.count in omega arith);
-  fit = are.each;
-  pass = (λ j. knowledge k.table (with_rights ((let e : k.view.rights ≡ n - 0 = (let r = rights in omega arith) in e) j) k.view));
-}
-
 more_with_rights : (v : View) (n : ℕ) → HasMore v (with_rights n v)
 more_with_rights v n = record {
   problem = refl;
@@ -129,15 +117,6 @@ keeps_without_rights g t v keeps = kept_is_kept_later g t v (without_rights v) (
 
 module _ (b : Board) (k : Knowledge) (t : Transitions) (n depth i : ℕ) (desks : List Desk) (ws : List Worker) (pass : Knowledge) (below : i < n)
     (so : Seating b k t n depth i desks ws pass) where
-  pub pass_is_of : IsOf b k → IsOf b pass
-  pass_is_of of = subst (IsOf b) (sym so.pass) (record { table = of.table; view = record { live = of.view.live; problem = of.view.problem; layout = of.view.layout } })
-
-  pub pass_has_right : 1 ≤ pass.view.rights
-  pass_has_right = subst (λ (l : Knowledge). 1 ≤ l.view.rights) (sym so.pass) (let e : 1 ≤ n - i = omega arith in e)
-
-  pub pass_is_free : k.view.spare ≡ None → pass.view.spare ≡ None
-  pass_is_free free = subst (λ (l : Knowledge). l.view.spare ≡ None) (sym so.pass) free
-
   module _ (rest : List Desk) (desk : Desk) (split : desks ≡ rest ++ desk ∷ []) where
     pub last_desk : IsDesk b.problem t depth desk
     last_desk = last_of (IsDesk b.problem t depth) rest desk (subst (All (IsDesk b.problem t depth)) split so.fit)

@@ -4,19 +4,19 @@ use Rattle.fixed_round.specs.Words.{value_of}
 use Rattle.ground_model.specs.Packed.{State}
 use Rattle.ground_model.specs.Ground.{Ground}
 use Rattle.ground_model.specs.Steps.{ground_process}
-use Rattle.sweep_levels.specs.Sweeps as sweeps
-use Rattle.sweep_levels.proofs.Rounds.{wider_is_backed_up}
-use Rattle.word_view.specs.declared.view.View.{View}
-use Rattle.word_view.specs.Views.{seen_lower, seen_upper}
-use Rattle.word_view.specs.Laws.{HasMore, IsLater}
-use Rattle.word_view.specs.Steps.{united, without_rights}
-use Rattle.word_view.proofs.Seen.{more_is_later}
-use Rattle.word_view.proofs.Noting.{noted_is_more, united_is_more}
+use Rattle.decision_process.specs.sweeps.Sweeps as sweeps
+use Rattle.decision_process.proofs.lemmas.sweeps.Rounds.{wider_is_backed_up}
+use Rattle.word_table.specs.declared.view.View.{View}
+use Rattle.word_table.specs.view.Views.{seen_lower, seen_upper}
+use Rattle.word_table.specs.view.Laws.{HasMore, IsLater}
+use Rattle.word_table.specs.view.Steps.{united, without_rights}
+use Rattle.word_table.proofs.lemmas.view.Seen.{more_is_later}
+use Rattle.word_table.proofs.lemmas.view.Noting.{noted_is_more, united_is_more}
 use Rattle.word_table.specs.Seen.{Board, Knowledge, knowledge, IsOf, with_rights}
 use Rattle.bellman_backup.specs.Scratches.{ScratchView, IsScratchOf}
 use Rattle.bellman_backup.specs.Races.{IsReady, Races, has_all, has_more_again}
 use Rattle.bellman_backup.specs.Backups.{Keeps, Narrows}
-use Rattle.start_means.specs.Means.{seen_value}
+use Rattle.bellman_backup.specs.means.Means.{seen_value}
 use Rattle.trial_workers.specs.Workers.{Stays}
 
 -- ---- the same pass later
@@ -33,16 +33,6 @@ stays_again b k l m first second = record {
 
 pub keeps_stays : (b : Board) (k l : Knowledge) → Keeps b k l → Stays b k l
 keeps_stays b k l keeps = record { here = keeps.here; noted = keeps.noted; rights = keeps.rights }
-
-pub races_stay : (b : Board) (k : Knowledge) (x : ScratchView) (l : Knowledge) (y : ScratchView) → IsOf b k → Races b k x b l y → Stays b k l
-races_stay b k x l y of races = record {
-  here = record {
-    table = races.table ∙ of.table;
-    view = record { live = races.live ∙ of.view.live; problem = races.noted.problem ∙ of.view.problem; layout = races.noted.layout ∙ of.view.layout };
-  };
-  noted = races.noted;
-  rights = races.rights;
-}
 
 -- ---- meetings
 

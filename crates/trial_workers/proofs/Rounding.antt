@@ -6,9 +6,9 @@ use Rattle.std.proofs.lemmas.Option.{slice_get_within, get_or_from_slice_get}
 use Rattle.std.proofs.Math.Nat.{mul-div_cancel_left, div-zero, zero-div, div-le_of_le-mul, mul-le-mul_right}
 use mathlib.Core.Logic.{dite}
 use native.Mathlib.Decide.{dec_le}
-use Rattle.word_view.specs.declared.view.View.{View}
-use Rattle.word_view.specs.Views.{knows}
-use Rattle.word_view.specs.Laws.{HasMore}
+use Rattle.word_table.specs.declared.view.View.{View}
+use Rattle.word_table.specs.view.Views.{knows}
+use Rattle.word_table.specs.view.Laws.{HasMore}
 use Rattle.word_table.specs.Seen.{Board, Knowledge}
 use Rattle.brtdp_trial.specs.declared.turn.Turn.{Turn}
 use Rattle.bellman_backup.specs.Backups.{Narrows}
@@ -136,9 +136,6 @@ all_can b d e (o ∷ os) ms deep division count crew knows a = can_all b d e dee
 
 workers_can_meet : (b : Board) (depth : ℕ) (ws : List Worker) → All (IsWorkerOf b depth) ws → All (λ (w : Worker). CanMeet b w.pass) ws
 workers_can_meet b depth ws each k d below = let w = each k d below in record { here = w.fit.here; right = w.fit.right }
-
-pub crew_can_meet : (b : Board) (depth : ℕ) (ws : List Worker) → IsCrewOf b depth ws → All (λ (w : Worker). CanMeet b w.pass) ws
-crew_can_meet b depth ws crew = workers_can_meet b depth ws crew.each
 
 all_workers : (b : Board) (e : Effort) (ms ss : List Worker) → AllZip (HasTakenPart b e) ms ss → All (IsWorkerOf b e.depth) ss
 all_workers b e ms ss z = zip_right (HasTakenPart b e) (IsWorkerOf b e.depth) ms ss (λ m s done. done.worker) z

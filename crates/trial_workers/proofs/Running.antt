@@ -6,11 +6,10 @@ use Rattle.brtdp_trial.specs.declared.run.Run.{Run}
 use Rattle.brtdp_trial.specs.Runs.{run_alone, goes_on, next_run}
 use Rattle.brtdp_trial.specs.Paths.{PathView}
 use Rattle.bellman_backup.specs.Scratches.{ScratchView, IsScratchOf}
-use Rattle.bellman_backup.specs.Races.{IsReady}
 use Rattle.trial_workers.specs.declared.effort.Effort.{Effort}
 use Rattle.trial_workers.specs.declared.worker.Worker.{Worker}
-use Rattle.trial_workers.specs.Workers.{Stays, IsRun, IsRunOf, ShowsTrials, HasTurnsKnown, CanTry, HasTried}
-use Rattle.trial_workers.proofs.Passes.{stays_all, stays_again}
+use Rattle.trial_workers.specs.Workers.{Stays, IsRun, IsRunOf, ShowsTrials, HasTurnsKnown, CanTry}
+use Rattle.trial_workers.proofs.Passes.{stays_again}
 
 -- ---- runs
 
@@ -99,27 +98,6 @@ pub record Trying (b : Board) (e : Effort) (v w : Worker) (x : ScratchView) (n :
   pub from : v.first_trial ≤ n
   pub within : v.first_trial < v.past_trial → n ≤ v.past_trial
   pub trials : v.first_trial < n → ShowsTrials e v.first_trial n w
-
-pub tries_begin : (b : Board) (e : Effort) (v : Worker) (x : ScratchView) → CanTry b e.depth v → IsScratchOf b x → Trying b e v v x v.first_trial
-tries_begin b e v x can of = record {
-  can = can;
-  of = of;
-  stays = stays_all b v.pass can.fit.here;
-  part = (refl, refl);
-  from = omega arith;
-  within = λ some. omega arith;
-  trials = λ later. absurd (omega arith);
-}
-
-pub tries_end : (b : Board) (e : Effort) (v w : Worker) (x : ScratchView) (n : ℕ) → Trying b e v w x n → v.past_trial ≤ n → HasTried b e v w
-tries_end b e v w x n so past = record {
-  fit = so.can.fit;
-  stays = so.stays;
-  trials = λ some. let same : n ≡ v.past_trial = (let a = so.within some in omega arith) in subst (λ m. ShowsTrials e v.first_trial m w) same (so.trials (omega arith));
-}
-
-pub is_ready : (b : Board) (depth : ℕ) (w : Worker) (x : ScratchView) → CanTry b depth w → IsScratchOf b x → IsReady b w.pass x
-is_ready b depth w x can of = record { here = can.fit.here; right = can.fit.right; scratch = of; starts = can.starts }
 
 abbrev with_trial : Worker → Knowledge → PathView → Worker
 with_trial w k p = record w { pass = k; path = p }

@@ -16,9 +16,6 @@ use Rattle.trial_workers.specs.Effort.{HaveRounds}
 use Rattle.trial_workers.proofs.Rounding.{KnowsAll, RoundDone, round_is_done}
 use Rattle.trial_workers.proofs.Counting.{knows_all, crew_goes_on}
 
-abbrev pub division_of : Effort → Extent → ℕ → List Worker → Division
-division_of e x number os = record { workers = length os; swept = x.swept; trials = e.trials; first_trial = number * e.trials }
-
 pub is_division : (d : Division) (depth : ℕ) (b : Board) (number : ℕ) (os : List Worker) → d.workers ≡ length os → d.first_trial ≡ number * d.trials → number < 2 ^ 32 → d.trials < 2 ^ 32
     → IsCrewOf b depth os → IsDivision d
 is_division d depth b number os count first small few crew = record {

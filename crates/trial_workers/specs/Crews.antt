@@ -22,16 +22,16 @@ use Rattle.ground_model.specs.Packed.{State}
 use Rattle.ground_model.specs.Ground.{Ground}
 use Rattle.ground_model.specs.Invariant.{IsGroundProblem}
 use Rattle.ground_model.specs.Steps.{ground_process, ground_starts}
-use Rattle.word_view.specs.declared.view.View.{View}
-use Rattle.word_view.specs.Steps.{without_rights}
+use Rattle.word_table.specs.declared.view.View.{View}
+use Rattle.word_table.specs.view.Steps.{without_rights}
 use Rattle.word_table.specs.Seen.{Board, Knowledge, knowledge, with_rights}
 use Rattle.brtdp_trial.specs.Paths.{PathView, new_path}
 use Rattle.kept_transitions.specs.Rows.{Transitions}
 use Rattle.bellman_backup.specs.Scratches.{ScratchView, new_scratch, with_witness}
-use Rattle.state_explorer.specs.declared.explored.TheConstants.{MOST_SWEPT}
-use Rattle.state_explorer.specs.Explored.{AreLevels}
-use Rattle.start_means.specs.declared.means.Means.{Means}
-use Rattle.start_means.specs.Means.{AreMeans}
+use Rattle.trial_workers.specs.declared.explorer.explored.TheConstants.{MOST_SWEPT}
+use Rattle.trial_workers.specs.explorer.Explored.{AreLevels}
+use Rattle.bellman_backup.specs.declared.means.Means.{Means}
+use Rattle.bellman_backup.specs.means.Means.{AreMeans}
 use Rattle.trial_workers.specs.declared.desk.Desk.{Desk}
 use Rattle.trial_workers.specs.declared.effort.Effort.{Effort}
 use Rattle.trial_workers.specs.declared.extent.Extent.{Extent}

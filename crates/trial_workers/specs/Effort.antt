@@ -7,12 +7,12 @@
 --     FirstIsWithin g gap ws     the means of what worker 0 has seen differ by at most the gap
 use Rattle.std.specs.Prelude.{ℕ, ◌+◌, ◌≤◌, Option, List, [], ◌∷◌}
 use Rattle.decision_process.specs.Rounded.{plain_low, plain_high}
-use Rattle.sweep_levels.specs.Sweeps.{rounds_at, HasRounds}
+use Rattle.decision_process.specs.sweeps.Sweeps.{rounds_at, HasRounds}
 use Rattle.ground_model.specs.Ground.{Ground}
 use Rattle.ground_model.specs.Steps.{ground_process, ground_starts}
-use Rattle.word_view.specs.declared.view.View.{View}
-use Rattle.word_view.specs.Views.{seen_lower}
-use Rattle.start_means.specs.Means.{seen_value, lower_mean, upper_mean}
+use Rattle.word_table.specs.declared.view.View.{View}
+use Rattle.word_table.specs.view.Views.{seen_lower}
+use Rattle.bellman_backup.specs.means.Means.{seen_value, lower_mean, upper_mean}
 use Rattle.trial_workers.specs.declared.effort.Solved.{Solved}
 use Rattle.trial_workers.specs.declared.worker.Worker.{Worker}
 

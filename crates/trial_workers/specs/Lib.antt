@@ -3,3 +3,5 @@ pub mod Workers
 pub mod Rounds
 pub mod Crews
 pub mod Effort
+pub mod explorer
+pub mod calls

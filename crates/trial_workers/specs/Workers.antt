@@ -15,9 +15,9 @@ use Rattle.std.specs.Prelude.{◌≡◌, ℕ, ◌+◌, ◌<◌, ◌≤◌, IsTru
 use Rattle.std.specs.List.{slice_get}
 use Rattle.ground_model.specs.Packed.{State}
 use Rattle.ground_model.specs.Ground.{Ground}
-use Rattle.word_view.specs.declared.view.View.{View}
-use Rattle.word_view.specs.Views.{knows, has_state}
-use Rattle.word_view.specs.Laws.{HasMore}
+use Rattle.word_table.specs.declared.view.View.{View}
+use Rattle.word_table.specs.view.Views.{knows, has_state}
+use Rattle.word_table.specs.view.Laws.{HasMore}
 use Rattle.word_table.specs.Seen.{Board, Knowledge, IsOf}
 use Rattle.brtdp_trial.specs.declared.run.Run.{Run}
 use Rattle.brtdp_trial.specs.declared.turn.Turn.{Turn}

@@ -1,6 +1,6 @@
 //! Crews.
 
-ghost use Rattle.std.specs.Prelude.{◌≡◌, ◌≤◌, ◌<◌, ◌-◌, ◌^◌, None, List, length, All, IfOk, IfErr};
+ghost use Rattle.std.specs.Prelude.{◌≡◌, ◌≤◌, ◌<◌, ◌-◌, None, List, length, IfOk, IfErr};
 ghost use Rattle.std.specs.Arc.{arc_value};
 ghost use Rattle.ground_model.specs.Packed.{State};
 ghost use Rattle.word_table.specs.Seen.{IsOf, knowledge, with_rights};
@@ -11,9 +11,9 @@ ghost use Rattle.trial_workers.specs.Crews.{seated};
 
 use crate::desk::Desk;
 use crate::worker::Worker;
+use applicable_actions::DistinctActions;
 use bellman_backup::Scratch;
 use brtdp_trial::Path;
-use distinct_actions::DistinctActions;
 use kept_transitions::{Kept, Room};
 use std::alloc::{AllocError, Global};
 use std::marker::Model;

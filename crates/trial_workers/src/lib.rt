@@ -1,10 +1,12 @@
-//! Crews of workers that solve at once over the shared table: rounds of sweeps over the states near the starts,
-//! and of trials.
+//! Crews of workers that solve at once over the shared table: rounds of sweeps over the states near
+//! the starts, and of trials.
 #![tactic(auto)]
 
+mod calls;
 mod crew;
 mod desk;
 mod effort;
+mod explorer;
 mod extent;
 mod meeting;
 mod parting;
@@ -17,6 +19,7 @@ mod worker;
 
 pub use crew::{Crew, MOST_WORKERS};
 pub use effort::{Effort, Solved};
+pub use explorer::{Explored, explore};
 pub use extent::Extent;
 pub use rounds::round;
 pub use solving::solve_words;

@@ -1,7 +1,7 @@
 //! Meetings of workers, before and behind a round.
 
 ghost use Rattle.std.specs.Prelude.{◌≡◌, ◌<◌, length, All};
-ghost use Rattle.word_view.specs.Laws.{HasMore};
+ghost use Rattle.word_table.specs.view.Laws.{HasMore};
 ghost use Rattle.word_table.specs.Seen.{IsOf};
 ghost use Rattle.trial_workers.specs.Parts.{IsDivision};
 ghost use Rattle.trial_workers.specs.Workers.{Stays};

@@ -1,16 +1,16 @@
 //! The workers' parts of a round.
 
-ghost use Rattle.std.specs.Prelude.{◌≡◌, ◌≤◌, ℕ, length, All};
+ghost use Rattle.std.specs.Prelude.{All};
 ghost use Rattle.std.specs.List.{AllZip};
 ghost use Rattle.trial_workers.specs.Workers.{CanTakePart, HasTakenPart};
 
+use crate::calls::call_each;
 use crate::effort::Effort;
 use crate::sweeping::sweep;
 use crate::trying::try_all;
 use crate::worker::Worker;
 use shelf_io::Gate;
 use std::thread::Threads;
-use threaded_calls::call_each;
 use word_table::Words;
 
 /// A worker's part: it backs up its ids and then makes its trials.

@@ -1,6 +1,6 @@
 //! How a round is divided among workers.
 
-ghost use Rattle.std.specs.Prelude.{◌≡◌, ◌<◌, ◌≤◌, ◌+◌, ◌*◌, ◌^◌};
+ghost use Rattle.std.specs.Prelude.{◌≡◌, ◌<◌, ◌≤◌, ◌+◌, ◌*◌};
 ghost use Rattle.trial_workers.specs.Parts.{share_of, with_part, IsDivision};
 
 use crate::worker::Worker;

@@ -1,6 +1,6 @@
 //! Rounds until the means of the starts' bounds are near each other.
 
-ghost use Rattle.std.specs.Prelude.{◌≡◌, ◌≤◌, ◌<◌, ◌+◌, ◌-◌, ◌⊎◌, ℕ};
+ghost use Rattle.std.specs.Prelude.{◌≡◌, ◌≤◌, ◌<◌, ◌+◌, ◌-◌, ◌⊎◌};
 ghost use Rattle.trial_workers.specs.Crews.{IsCrewOf, IsNear, HaveStayed, HaveTrials};
 ghost use Rattle.trial_workers.specs.Crews.{FirstReads};
 ghost use Rattle.trial_workers.specs.Effort.{HaveRounds, IsWithinPlain, FirstHasSeen};
@@ -11,8 +11,8 @@ use crate::effort::{Effort, Solved};
 use crate::extent::Extent;
 use crate::rounds::round;
 use crate::worker::Worker;
+use bellman_backup::{Means, read_means};
 use shelf_io::Gate;
-use start_means::{Means, read_means};
 use std::thread::Threads;
 use word_table::Words;
 

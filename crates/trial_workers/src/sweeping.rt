@@ -1,7 +1,7 @@
 //! A worker's backups of its ids.
 
 ghost use Rattle.std.specs.Prelude.{◌<◌, ℕ};
-ghost use Rattle.word_view.specs.Views.{knows};
+ghost use Rattle.word_table.specs.view.Views.{knows};
 ghost use Rattle.word_table.specs.Seen.{IsOf};
 ghost use Rattle.bellman_backup.specs.Scratches.{IsScratchOf};
 ghost use Rattle.trial_workers.specs.Workers.{Stays, HasSwept};

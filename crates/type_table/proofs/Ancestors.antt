@@ -177,10 +177,6 @@ module _ (types : List TypeDecl) where
   above_parent a t declared there =
       reaches_cut (length types) types (omega arith) (suc (length types)) a t.parent (reaches_then types (length types) a t declared there)
 
-  pub above_by : (a b : Name) (t : TypeDecl) → Contains types t → t.name ≡ a → IsAbove types b t.parent → IsAbove types b a
-  above_by a b t declared is there =
-      reaches_cut (length types) types (omega arith) (suc (length types)) a b (reaches_on types (length types) t a b declared is there)
-
   pub above_within : (A : Name → Type 0) → ((t : TypeDecl) → Contains types t → A t.name → A t.parent)
       → (a b : Name) → IsAbove types b a → A a → A b
   above_within A closed = reaches_within types A closed (length types)

@@ -1,5 +1,5 @@
 -- Types that get their places, one more at a time.
-use Rattle.std.proofs.Common.{◌≡◌, ◌≢◌, inl, inr, ℕ, zero, suc, ◌+◌, ◌-◌, ◌<◌, ◌≤◌, ◌==◌, List, [], ◌∷◌, ◌++◌, length, get_or, refl, sym, ap, subst, ◌∙◌, arith, eq-eqb, eqb-true, true≢false, get_or-set_same, get_or-set_other, length-append, take, lit<}
+use Rattle.std.proofs.Common.{◌≡◌, ◌≢◌, inl, inr, ℕ, suc, ◌+◌, ◌-◌, ◌<◌, ◌≤◌, ◌==◌, List, [], ◌∷◌, ◌++◌, length, get_or, sym, ap, subst, ◌∙◌, arith, eq-eqb, eqb-true, true≢false, get_or-set_same, get_or-set_other, length-append, take, lit<}
 use Rattle.std.specs.Prelude.{slice_set}
 use Rattle.std.proofs.lemmas.Bool.{cases_lt}
 use Rattle.std.proofs.lemmas.List.{length-set, get_or_past, get_or_default}
@@ -15,12 +15,6 @@ abbrev nowhere : Rank
 nowhere = record { depth = UNPLACED; jump = 0 }
 
 -- ---- no places yet
-
-pub unplaced-push : (ranks : List Rank) → ((k : ℕ) → depth_at ranks k ≡ UNPLACED) → (k : ℕ) → depth_at (ranks ++ nowhere ∷ []) k ≡ UNPLACED
-unplaced-push [] none zero = refl
-unplaced-push [] none (suc k) = refl
-unplaced-push (r ∷ ranks) none zero = none 0
-unplaced-push (r ∷ ranks) none (suc k) = unplaced-push ranks (λ m. none (suc m)) k
 
 -- ---- one place
 
@@ -115,9 +109,6 @@ module _ (parents : List ℕ) (ranks : List Rank) (kind : ℕ) (below : kind < l
         far = way.far ∙ sym jump_now;
         some = λ deep. omega arith;
       })
-
-  pub settled_more : IsMorePlaced ranks kind (slice_set ranks kind rank)
-  settled_more = more_placed parents ranks kind rank below placed fits same_depth
 
 -- the end of two jumps
 pub two_jumps : (parents : List ℕ) (ranks : List Rank) (parent : ℕ) → ArePlaced parents ranks → IsRanked ranks parent → IsOnTheWay parents ranks parent (jump_at ranks (jump_at ranks parent))

@@ -7,7 +7,7 @@ use Rattle.std.proofs.lemmas.List.Elements.{filter-append, Contains-get_or, Cont
 use Rattle.std.proofs.lemmas.Map.Steps.{length-le_from_distinct_below}
 use Rattle.std.proofs.lemmas.Map.Views.{Contains-from_any}
 use Rattle.indexmap.specs.IndexSet.{insert_key}
-use Rattle.plain_list.proofs.Members.{Contains-first, Contains-cons_cases, Contains-nil}
+use Rattle.plain_list.proofs.Members.{Contains-cons_cases, Contains-nil}
 use Rattle.type_table.specs.declared.link.Link.{Link}
 use Rattle.type_table.specs.Rows.{row_at, pushed, EachRow, parents_of, AreWithin, Adds, IsClosed, IsReached}
 use Rattle.type_table.specs.Reading.{items_of}
@@ -138,16 +138,6 @@ pub record Searched (rows : List (List ℕ)) (kind next : ℕ) (seen : List ℕ)
 
 only : (x y : ℕ) → Contains (x ∷ []) y → x ≡ y
 only x y inside = elim (Contains-cons_cases x [] y inside) [ inl same ↦ same | inr none ↦ absurd (Contains-nil y none) ]
-
-pub search_begins : (rows : List (List ℕ)) (kind : ℕ) → kind < length rows → IsDistinct nat_eq (kind ∷ []) → Searched rows kind 0 (kind ∷ [])
-search_begins rows kind within distinct = record {
-  distinct = distinct;
-  within = λ x inside. subst (λ y. y < length rows) (only kind x inside) within;
-  itself = Contains-first kind [];
-  done = omega arith;
-  closed = λ a x inside there. absurd (Contains-nil a inside);
-  least = λ inside closed begins a there. subst (λ y. inside y ≡ true) (only kind a there) begins;
-}
 
 module _ (rows : List (List ℕ)) (kind next : ℕ) (seen : List ℕ) (searched : Searched rows kind next seen) where
   pub seen_few : length seen ≤ length rows

@@ -90,9 +90,6 @@ module _ {A : Type 0} (types : List TypeDecl) (objects : List Name) (kinds : Lis
       ap (λ l. name_at l o) (kinds_are (type_names types) objects kinds table.long)
       ∙ get-map (name_at (type_names types)) kinds o [] 0 (omega (arith, below, many_objects, table.long))
 
-  pub kind_known : (o : ℕ) → o < length w.objects → get_or kinds o 0 < length (type_names types)
-  kind_known o below = table.within o 0 (omega (arith, below, many_objects, table.long))
-
   pub members_are : (k : ℕ) → map (object_at w) (members_of types kinds k) ≡ objects_under w k
   members_are k =
       let many : length kinds ≡ length w.objects = table.long ∙ sym many_objects in

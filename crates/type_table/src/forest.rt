@@ -7,7 +7,7 @@ ghost use Rattle.indexmap.specs.IndexSet.{insert_key};
 ghost use Rattle.type_table.specs.declared.refusal.TypeRefusal.TheVariants.{Cycle};
 ghost use Rattle.type_table.specs.Forest.{AreParentsWithin, HasLoop, IsPathTo, ArePlaced, IsRanked, IsOnTheWay};
 ghost use Rattle.type_table.specs.Forest.{AreUnplaced, IsEnd, IsMorePlaced, IsForest};
-ghost use Rattle.type_table.specs.Forest.{depth_at, parent_at, path, upward_path};
+ghost use Rattle.type_table.specs.Forest.{parent_at, path, upward_path};
 ghost use Rattle.type_table.specs.Rows.{AddsToRow};
 
 use crate::refusal::TypeRefusal;

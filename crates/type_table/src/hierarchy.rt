@@ -3,7 +3,7 @@
 ghost use Rattle.std.specs.Prelude.{◌≡◌, ◌<◌, true, false, length, IfOk, OnOk, IsErrOf};
 ghost use Rattle.ppddl_model.specs.Objects.{is_under};
 ghost use Rattle.type_table.specs.declared.refusal.TypeRefusal.TheVariants.{Cycle};
-ghost use Rattle.type_table.specs.Numbered.{number_of, name_at};
+ghost use Rattle.type_table.specs.Numbered.{number_of};
 ghost use Rattle.type_table.specs.Types.{type_names, has_cycle, under};
 ghost use Rattle.type_table.specs.Hierarchy.{IsAdded};
 

@@ -22,6 +22,3 @@ mod table;
 pub use laws::type_laws;
 pub use refusal::TypeRefusal;
 pub use table::TypeTable;
-
-#[cfg(test)]
-mod tests;

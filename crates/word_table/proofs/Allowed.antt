@@ -13,23 +13,23 @@ use Rattle.ground_model.specs.Ground.{Ground}
 use Rattle.ground_model.specs.Packed.{State}
 use Rattle.bound_core.specs.declared.event.Event.{Event}
 use Rattle.bound_core.specs.declared.event.Event.TheVariants.{SeeLower, SeeUpper, Raise, Sink, Claim, Write, Publish, Look, Split, Join}
-use Rattle.word_layout.specs.declared.layout.Layout.{Layout}
-use Rattle.word_layout.specs.Places.{bucket_at, state_at, lower_at, upper_at}
-use Rattle.word_layout.proofs.Places.{state_words_differ}
-use Rattle.word_view.specs.declared.view.View.{View}
-use Rattle.word_view.specs.Views.{knows, CanRaise, CanSink, CanPublish}
-use Rattle.word_view.specs.Steps.{with_lower_load, with_upper_load, with_lower, with_upper, with_count, with_spare, with_written, with_held, with_empty, with_state_word, with_published, without_rights, with_one_right, less_one_right, united, richer, spent}
-use Rattle.word_rule.specs.Words.{Table, word, given_in, held_in, lower_in, upper_in}
-use Rattle.word_rule.specs.Rule.{Holds}
-use Rattle.word_rule.specs.Told.{TellsLower, TellsUpper, TellsNone, HasRoom}
-use Rattle.word_rule.specs.Laws.{IsViewOf, IsStep, Sits, with_view, with_word}
-use Rattle.word_rule.proofs.Lists.{inside}
-use Rattle.word_rule.proofs.Looks.{lower_load_is_a_step, upper_load_is_a_step, count_load_is_a_step, held_load_is_a_step, empty_load_is_a_step, state_load_is_a_step}
-use Rattle.word_rule.proofs.Numbers.{raise_is_a_step, sink_is_a_step}
-use Rattle.word_rule.proofs.Ids.{step_keeps_the_rule, claim_is_a_step, write_is_a_step}
-use Rattle.word_rule.proofs.Publishing.{publish_is_a_step}
-use Rattle.word_rule.proofs.Seats.{split_is_a_step, one_right_is_a_step, join_is_a_step, rights_join_is_a_step}
-use Rattle.word_rule.proofs.Told.{lower_is_told, upper_is_told, count_is_told, held_is_told, empty_is_told, states_are_told, one_state_is_told}
+use Rattle.word_table.specs.declared.layout.Layout.{Layout}
+use Rattle.word_table.specs.layout.Places.{bucket_at, state_at, lower_at, upper_at}
+use Rattle.word_table.proofs.lemmas.layout.Places.{state_words_differ}
+use Rattle.word_table.specs.declared.view.View.{View}
+use Rattle.word_table.specs.view.Views.{knows, CanRaise, CanSink, CanPublish}
+use Rattle.word_table.specs.view.Steps.{with_lower_load, with_upper_load, with_lower, with_upper, with_count, with_spare, with_written, with_held, with_empty, with_state_word, with_published, without_rights, with_one_right, less_one_right, united, richer, spent}
+use Rattle.word_table.specs.rule.Words.{Table, word, given_in, held_in, lower_in, upper_in}
+use Rattle.word_table.specs.rule.Rule.{Holds}
+use Rattle.word_table.specs.rule.Told.{TellsLower, TellsUpper, TellsNone, HasRoom}
+use Rattle.word_table.specs.rule.Laws.{IsViewOf, IsStep, Sits, with_view, with_word}
+use Rattle.word_table.proofs.lemmas.rule.Lists.{inside}
+use Rattle.word_table.proofs.lemmas.rule.Looks.{lower_load_is_a_step, upper_load_is_a_step, count_load_is_a_step, held_load_is_a_step, empty_load_is_a_step, state_load_is_a_step}
+use Rattle.word_table.proofs.lemmas.rule.Numbers.{raise_is_a_step, sink_is_a_step}
+use Rattle.word_table.proofs.lemmas.rule.Ids.{step_keeps_the_rule, claim_is_a_step, write_is_a_step}
+use Rattle.word_table.proofs.lemmas.rule.Publishing.{publish_is_a_step}
+use Rattle.word_table.proofs.lemmas.rule.Seats.{split_is_a_step, one_right_is_a_step, join_is_a_step, rights_join_is_a_step}
+use Rattle.word_table.proofs.lemmas.rule.Told.{lower_is_told, upper_is_told, count_is_told, held_is_told, empty_is_told, states_are_told, one_state_is_told}
 use Rattle.word_table.specs.Plays.{Mine, Finds, lower_loaded, upper_loaded, lower_raised, upper_sunk, counted, claimed, wrote, looked, put, read}
 
 abbrev Same : Mine → Mine → Type 0

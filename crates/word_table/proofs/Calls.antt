@@ -5,13 +5,13 @@ use Rattle.std.specs.Option.{unwrap_or}
 use Rattle.std.proofs.lemmas.List.Elements.{All-cons, All-contains}
 use Rattle.atomic_table.specs.Seated.{TableId}
 use Rattle.ground_model.specs.Ground.{Ground}
-use Rattle.word_layout.specs.declared.layout.Layout.{Layout}
-use Rattle.word_layout.specs.Places.{bucket_at, state_at, lower_at, upper_at, size, IsLayout}
-use Rattle.word_layout.proofs.Places.{state_words_are_within}
-use Rattle.word_view.specs.declared.view.View.{View}
-use Rattle.word_view.specs.Views.{knows}
-use Rattle.word_view.specs.Steps.{with_held, with_published}
-use Rattle.word_rule.specs.Laws.{IsViewOf}
+use Rattle.word_table.specs.declared.layout.Layout.{Layout}
+use Rattle.word_table.specs.layout.Places.{bucket_at, state_at, lower_at, upper_at, size, IsLayout}
+use Rattle.word_table.proofs.lemmas.layout.Places.{state_words_are_within}
+use Rattle.word_table.specs.declared.view.View.{View}
+use Rattle.word_table.specs.view.Views.{knows}
+use Rattle.word_table.specs.view.Steps.{with_held, with_published}
+use Rattle.word_table.specs.rule.Laws.{IsViewOf}
 use Rattle.word_table.specs.Seen.{Board, Knowledge, board, knowledge, IsOf, IsWithin, HoldsId}
 use Rattle.word_table.specs.Plays.{Mine}
 

@@ -19,14 +19,14 @@ use Rattle.ground_model.specs.Ground.{Ground}
 use Rattle.ground_model.proofs.Steps.{slice_get-contains}
 use Rattle.bound_core.specs.declared.image.ImageRow.{ImageRow}
 use Rattle.bound_core.specs.Core.{Core, sight_at}
-use Rattle.word_layout.specs.declared.layout.Layout.{Layout}
-use Rattle.word_view.specs.declared.view.View.{View}
-use Rattle.word_rule.specs.Words.{Table, word, held_in, IsPublished}
-use Rattle.word_rule.specs.Rule.{Holds, IsShownBy, total, holders, one_if_some, taken_below}
-use Rattle.word_rule.specs.Laws.{IsViewOf, Sits}
-use Rattle.word_rule.proofs.Lists.{taken, taken_one}
-use Rattle.word_rule.proofs.Facts.{state_is, known_is_published, seen_lower_within, seen_upper_within, published_there}
-use Rattle.word_rule.proofs.Told.{held_is_told}
+use Rattle.word_table.specs.declared.layout.Layout.{Layout}
+use Rattle.word_table.specs.declared.view.View.{View}
+use Rattle.word_table.specs.rule.Words.{Table, word, held_in, IsPublished}
+use Rattle.word_table.specs.rule.Rule.{Holds, IsShownBy, total, holders, one_if_some, taken_below}
+use Rattle.word_table.specs.rule.Laws.{IsViewOf, Sits}
+use Rattle.word_table.proofs.lemmas.rule.Lists.{taken, taken_one}
+use Rattle.word_table.proofs.lemmas.rule.Facts.{state_is, known_is_published, seen_lower_within, seen_upper_within, published_there}
+use Rattle.word_table.proofs.lemmas.rule.Told.{held_is_told}
 use Rattle.word_table.specs.Seen.{board}
 use Rattle.word_table.specs.Closed.{is_held, row_in, ids_in, rows_in, image_in, AreClosed, IsRow, AreRows, IsImage}
 

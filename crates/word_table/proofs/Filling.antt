@@ -17,14 +17,14 @@ use Rattle.bound_core.specs.Core.{width, first_core}
 use Rattle.bound_core.specs.Numbers.{first_word, quit_word}
 use Rattle.bound_core.proofs.Keeping.{first_is_sound}
 use Rattle.bound_core.proofs.Worth.{published_are_inside}
-use Rattle.word_layout.specs.declared.layout.Layout.{Layout}
-use Rattle.word_layout.specs.Places.{size, bucket_at, state_at, lower_at, upper_at, IsLayout}
-use Rattle.word_view.specs.Steps.{first_view}
-use Rattle.word_rule.specs.Words.{word, held_in, state_in}
-use Rattle.word_rule.specs.Rule.{taken_below}
-use Rattle.word_rule.specs.Made.{AreMade, IsPut}
-use Rattle.word_rule.proofs.Lists.{taken, map_range_same}
-use Rattle.word_rule.proofs.Putting.{put_is_made}
+use Rattle.word_table.specs.declared.layout.Layout.{Layout}
+use Rattle.word_table.specs.layout.Places.{size, bucket_at, state_at, lower_at, upper_at, IsLayout}
+use Rattle.word_table.specs.view.Steps.{first_view}
+use Rattle.word_table.specs.rule.Words.{word, held_in, state_in}
+use Rattle.word_table.specs.rule.Rule.{taken_below}
+use Rattle.word_table.specs.rule.Made.{AreMade, IsPut}
+use Rattle.word_table.proofs.lemmas.rule.Lists.{taken, map_range_same}
+use Rattle.word_table.proofs.lemmas.rule.Putting.{put_is_made}
 use Rattle.word_table.specs.Seen.{IsWithin}
 use Rattle.word_table.specs.Made.{IsFree, HasWritten, AreFirst, states_in}
 

@@ -3,3 +3,4 @@ mod Calls
 mod Turns
 mod Filling
 mod Ending
+pub mod lemmas

@@ -6,12 +6,12 @@ use native.Mathlib.Decide.{ℕ_discrete, dec_le}
 use Rattle.atomic_table.proofs.Lists.{one_turn}
 use Rattle.ground_model.specs.Ground.{Ground}
 use Rattle.ground_model.specs.Packed.{State}
-use Rattle.word_layout.specs.declared.layout.Layout.{Layout}
-use Rattle.word_layout.specs.Places.{turn, bucket_at, IsLayout}
-use Rattle.word_layout.proofs.Places.{turns_are_buckets}
-use Rattle.word_rule.specs.Made.{AreMade}
-use Rattle.word_rule.proofs.Lists.{pigeons}
-use Rattle.word_rule.specs.Words.{word, held_in}
+use Rattle.word_table.specs.declared.layout.Layout.{Layout}
+use Rattle.word_table.specs.layout.Places.{turn, bucket_at, IsLayout}
+use Rattle.word_table.proofs.lemmas.layout.Places.{turns_are_buckets}
+use Rattle.word_table.specs.rule.Made.{AreMade}
+use Rattle.word_table.proofs.lemmas.rule.Lists.{pigeons}
+use Rattle.word_table.specs.rule.Words.{word, held_in}
 use Rattle.word_table.specs.Made.{AllTaken, HasFree, IsFree}
 
 pub same_turn : (l : Layout) (hash k : ℕ) → (hash % l.buckets + k) % l.buckets ≡ turn l hash k

@@ -26,10 +26,10 @@ use Rattle.bound_core.specs.declared.image.ImageRow.{ImageRow}
 use Rattle.bound_core.specs.Numbers.{first_word}
 use Rattle.bound_core.specs.Core.{Core, IsPublished}
 use Rattle.bound_core.specs.Sound.{Sound}
-use Rattle.word_layout.specs.declared.layout.Layout.{Layout}
-use Rattle.word_view.specs.declared.view.View.{View}
-use Rattle.word_view.specs.Views.{knows, has_state, seen_lower, seen_upper}
-use Rattle.word_rule.specs.Words.{given_in, held_in, state_in, lower_in, upper_in}
+use Rattle.word_table.specs.declared.layout.Layout.{Layout}
+use Rattle.word_table.specs.declared.view.View.{View}
+use Rattle.word_table.specs.view.Views.{knows, has_state, seen_lower, seen_upper}
+use Rattle.word_table.specs.rule.Words.{given_in, held_in, state_in, lower_in, upper_in}
 use Rattle.word_table.specs.declared.room.Room.{Room}
 use Rattle.word_table.specs.Seen.{Board}
 

@@ -14,11 +14,11 @@ use Rattle.decision_process.specs.Levels.{IsReachable}
 use Rattle.ground_model.specs.Packed.{State}
 use Rattle.ground_model.specs.Ground.{Ground}
 use Rattle.ground_model.specs.Steps.{ground_process, ground_starts}
-use Rattle.word_layout.specs.declared.layout.Layout.{Layout}
-use Rattle.word_layout.specs.Places.{turn}
-use Rattle.word_view.specs.Steps.{first_view}
-use Rattle.word_rule.specs.Words.{word, given_in, held_in, state_in}
-use Rattle.word_rule.specs.Rule.{IsTable}
+use Rattle.word_table.specs.declared.layout.Layout.{Layout}
+use Rattle.word_table.specs.layout.Places.{turn}
+use Rattle.word_table.specs.view.Steps.{first_view}
+use Rattle.word_table.specs.rule.Words.{word, given_in, held_in, state_in}
+use Rattle.word_table.specs.rule.Rule.{IsTable}
 use Rattle.word_table.specs.Seen.{Board, Knowledge, knowledge}
 
 abbrev pub states_in : Layout → List ℕ → List State

@@ -2,13 +2,13 @@
 -- words and views, so it says which id or bucket a word is of by the view's layout.
 use Rattle.std.specs.Prelude.{◌≡◌, ◌≢◌, ℕ, ◌+◌, ◌<◌, Some}
 use Rattle.atomic_table.specs.Table.{Me, Step}
-use Rattle.word_layout.specs.Places.{bucket_at, state_at, lower_at, upper_at}
-use Rattle.word_view.specs.declared.view.View.{View}
-use Rattle.word_view.specs.Steps.{with_lower_load, with_upper_load, with_lower, with_upper, with_count}
-use Rattle.word_view.specs.Steps.{with_spare, with_written, with_held, with_empty, with_state_word}
-use Rattle.word_view.specs.Steps.{with_published}
-use Rattle.word_rule.specs.Told.{TellsLower, TellsUpper, TellsCount, TellsNone}
-use Rattle.word_rule.specs.Told.{HasRoom, HasOneEach, HasOneState}
+use Rattle.word_table.specs.layout.Places.{bucket_at, state_at, lower_at, upper_at}
+use Rattle.word_table.specs.declared.view.View.{View}
+use Rattle.word_table.specs.view.Steps.{with_lower_load, with_upper_load, with_lower, with_upper, with_count}
+use Rattle.word_table.specs.view.Steps.{with_spare, with_written, with_held, with_empty, with_state_word}
+use Rattle.word_table.specs.view.Steps.{with_published}
+use Rattle.word_table.specs.rule.Told.{TellsLower, TellsUpper, TellsCount, TellsNone}
+use Rattle.word_table.specs.rule.Told.{HasRoom, HasOneEach, HasOneState}
 
 abbrev pub Mine : Type 0
 Mine = Me (Unit {0}) View

@@ -13,11 +13,11 @@
 use Rattle.std.specs.Prelude.{◌≡◌, ℕ, ◌<◌, Some, All}
 use Rattle.atomic_table.specs.Seated.{TableId}
 use Rattle.ground_model.specs.Ground.{Ground}
-use Rattle.word_layout.specs.declared.layout.Layout.{Layout}
-use Rattle.word_view.specs.declared.view.View.{View}
-use Rattle.word_view.specs.Steps.{with_spare, with_count, with_held, with_empty, with_published}
-use Rattle.word_rule.specs.Told.{TellsCount}
-use Rattle.word_rule.specs.Laws.{IsViewOf}
+use Rattle.word_table.specs.declared.layout.Layout.{Layout}
+use Rattle.word_table.specs.declared.view.View.{View}
+use Rattle.word_table.specs.view.Steps.{with_spare, with_count, with_held, with_empty, with_published}
+use Rattle.word_table.specs.rule.Told.{TellsCount}
+use Rattle.word_table.specs.rule.Laws.{IsViewOf}
 use Rattle.word_table.specs.declared.claimed.Claim.{Claim}
 use Rattle.word_table.specs.declared.claimed.Claim.TheVariants.{Own, Moved}
 

@@ -1,12 +1,13 @@
 //! What a table hands out at its end.
 
-ghost use Rattle.std.specs.Prelude.{◌≡◌, ◌<◌, ◌≤◌, ◌+◌, ℕ, All, length, IfOk, IfErr};
+ghost use Rattle.std.specs.Prelude.{◌≡◌, ◌<◌, ◌+◌, All, length, IfOk, IfErr};
 ghost use Rattle.std.specs.Mem.Slots.{slots_items, slots_len, IsFull};
-ghost use Rattle.word_layout.specs.Places.{size, IsLayout};
-ghost use Rattle.word_rule.specs.Words.{word, state_in};
+ghost use Rattle.word_table.specs.layout.Places.{size, IsLayout};
+ghost use Rattle.word_table.specs.rule.Words.{word, state_in};
 ghost use Rattle.word_table.specs.Seen.{IsOf};
 ghost use Rattle.word_table.specs.Closed.{AreClosed, AreMarked, IsWide, IsRoom, IsImage, row_in, rows_in, image_in};
 
+use crate::layout::Layout;
 use crate::making::first_word;
 use crate::pass::Pass;
 use crate::room::Room;
@@ -16,7 +17,6 @@ use bound_core::{Image, ImageRow, List};
 use fixed_round::UpperWord;
 use ground_model::{GroundProblem, State};
 use std::alloc::{AllocError, Global};
-use word_layout::Layout;
 
 /// A row for each id, whose numbers and words are 0.
 fn blank_rows(alloc: Global, layout: Layout) -> Result<Vec<ImageRow>, AllocError>

@@ -1,10 +1,10 @@
 //! Ids that are claimed and published while others look: each call is one event of the core.
 
-ghost use Rattle.std.specs.Prelude.{◌≡◌, ◌≢◌, ◌<◌, ◌≤◌, ◌+◌, Some, None, IfSome, IfNone, IsSome};
+ghost use Rattle.std.specs.Prelude.{◌≡◌, ◌<◌, ◌≤◌, ◌+◌, Some, None, IfSome, IfNone, IsSome};
 ghost use Rattle.ground_model.specs.Packed.{State};
-ghost use Rattle.word_view.specs.Views.{knows, CanPublish};
-ghost use Rattle.word_view.specs.Steps.{with_count, with_written, with_state_word};
-ghost use Rattle.word_rule.specs.Told.{TellsCount, TellsNone, HasRoom, HasOneEach, HasOneState};
+ghost use Rattle.word_table.specs.view.Views.{knows, CanPublish};
+ghost use Rattle.word_table.specs.view.Steps.{with_count, with_written, with_state_word};
+ghost use Rattle.word_table.specs.rule.Told.{TellsCount, TellsNone, HasRoom, HasOneEach, HasOneState};
 ghost use Rattle.word_table.specs.Seen.{knowledge, IsOf, ClaimTells, HoldsId, FindsEmpty, HasPublished};
 
 use crate::claimed::Claim;

@@ -1,9 +1,9 @@
 //! The rule of the table, and what it is told once.
 
+use crate::layout::Layout;
+use crate::view::View;
 use atomic_table::TableRule;
 use ground_model::GroundProblem;
-use word_layout::Layout;
-use word_view::View;
 
 /// What a table is told when it is made.
 #[derive(Drop)]
@@ -22,8 +22,8 @@ pub struct Key<'p> {
 pub struct Rule;
 
 impl<'p> TableRule<(), View, Key<'p>> for Rule {
-    ghost use Rattle.word_rule.specs.Rule.{Holds};
-    ghost use Rattle.word_view.specs.Steps.{first_view};
+    ghost use Rattle.word_table.specs.rule.Rule.{Holds};
+    ghost use Rattle.word_table.specs.view.Steps.{first_view};
     ghost use Rattle.word_table.specs.Made.{states_in};
 
     ghost holds = { λ key. Holds key.problem.now key.layout key.rights };

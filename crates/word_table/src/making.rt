@@ -6,12 +6,13 @@ ghost use Rattle.ground_step.specs.Hash.{hash_of};
 ghost use Rattle.bound_core.specs.Core.{width};
 ghost use Rattle.bound_core.specs.Numbers.{first_word};
 ghost use Rattle.bound_core.specs.declared.codes.TheConstants.{MOST_IDS};
-ghost use Rattle.word_layout.specs.Places.{size, IsLayout};
-ghost use Rattle.word_layout.specs.declared.layout.TheConstants.{MOST_WIDTH};
-ghost use Rattle.word_rule.specs.Made.{AreMade, IsPut};
+ghost use Rattle.word_table.specs.layout.Places.{size, IsLayout};
+ghost use Rattle.word_table.specs.declared.layout.TheConstants.{MOST_WIDTH};
+ghost use Rattle.word_table.specs.rule.Made.{AreMade, IsPut};
 ghost use Rattle.word_table.specs.Made.{HasFree, IsFree, HasWritten, AreFirst, IsMade};
 
 use crate::key::Key;
+use crate::layout::Layout;
 use crate::pass::Pass;
 use crate::words::Words;
 use atomic_table::Table;
@@ -20,7 +21,6 @@ use fixed_round::UpperWord;
 use ground_model::{GroundProblem, State};
 use ground_step::{hash, is_goal};
 use std::alloc::{AllocError, Global};
-use word_layout::Layout;
 
 /// The number of words of a state.
 fn width(problem: &GroundProblem) -> u32

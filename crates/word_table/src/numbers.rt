@@ -1,9 +1,9 @@
 //! Loads, raises and sinks of numbers: each is one event of the core.
 
 ghost use Rattle.std.specs.Prelude.{◌≡◌};
-ghost use Rattle.word_view.specs.Views.{knows, CanRaise, CanSink};
-ghost use Rattle.word_view.specs.Steps.{with_lower_load, with_upper_load, with_lower, with_upper};
-ghost use Rattle.word_rule.specs.Told.{TellsLower, TellsUpper};
+ghost use Rattle.word_table.specs.view.Views.{knows, CanRaise, CanSink};
+ghost use Rattle.word_table.specs.view.Steps.{with_lower_load, with_upper_load, with_lower, with_upper};
+ghost use Rattle.word_table.specs.rule.Told.{TellsLower, TellsUpper};
 ghost use Rattle.word_table.specs.Seen.{knowledge, IsOf};
 
 use crate::pass::Pass;

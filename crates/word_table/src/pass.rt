@@ -2,9 +2,9 @@
 
 ghost use Rattle.std.specs.Prelude.{◌≡◌, IsSome, IsTrue, ◌↔◌};
 
+use crate::view::View;
 use atomic_table::Seat;
 use std::marker::Model;
-use word_view::View;
 
 /// The right to step on the words of one table, with what its holder knows and has seen: a `View`, which
 /// contracts see and no code does.

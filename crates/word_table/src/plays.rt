@@ -1,7 +1,7 @@
 //! What each kind of step tells its own pass.
 
+use crate::view::View;
 use atomic_table::{Join, Play, Split};
-use word_view::View;
 
 /// A load of a lower number.
 pub(crate) struct LowerLoad;
@@ -97,7 +97,7 @@ impl Play<(), View> for StateLoad {
 pub(crate) struct NoRight;
 
 impl Split<View> for NoRight {
-    ghost use Rattle.word_view.specs.Steps.{without_rights};
+    ghost use Rattle.word_table.specs.view.Steps.{without_rights};
 
     ghost left = { λ v. v };
 
@@ -108,7 +108,7 @@ impl Split<View> for NoRight {
 pub(crate) struct OneRight;
 
 impl Split<View> for OneRight {
-    ghost use Rattle.word_view.specs.Steps.{less_one_right, with_one_right};
+    ghost use Rattle.word_table.specs.view.Steps.{less_one_right, with_one_right};
 
     ghost left = { less_one_right };
 
@@ -119,7 +119,7 @@ impl Split<View> for OneRight {
 pub(crate) struct Unites;
 
 impl Join<View> for Unites {
-    ghost use Rattle.word_view.specs.Steps.{united, spent};
+    ghost use Rattle.word_table.specs.view.Steps.{united, spent};
 
     ghost both = { united };
 
@@ -130,7 +130,7 @@ impl Join<View> for Unites {
 pub(crate) struct TakesRights;
 
 impl Join<View> for TakesRights {
-    ghost use Rattle.word_view.specs.Steps.{richer, spent};
+    ghost use Rattle.word_table.specs.view.Steps.{richer, spent};
 
     ghost both = { richer };
 

@@ -1,7 +1,7 @@
 //! Passes that are split off, joined and met.
 
 ghost use Rattle.std.specs.Prelude.{◌≡◌, ◌<◌, ◌≤◌, ◌-◌, Some, None, ℕ};
-ghost use Rattle.word_view.specs.Steps.{without_rights, with_one_right, less_one_right, united, richer};
+ghost use Rattle.word_table.specs.view.Steps.{without_rights, with_one_right, less_one_right, united, richer};
 ghost use Rattle.word_table.specs.Seen.{knowledge, IsOf, with_rights};
 
 use crate::pass::Pass;

@@ -1,16 +1,16 @@
 //! The shared words.
 
 ghost use Rattle.std.specs.Prelude.{◌≡◌, ◌<◌};
-ghost use Rattle.word_layout.specs.Places.{lower_at, upper_at};
-ghost use Rattle.word_rule.specs.Rule.{IsTable};
+ghost use Rattle.word_table.specs.layout.Places.{lower_at, upper_at};
+ghost use Rattle.word_table.specs.rule.Rule.{IsTable};
 
 use crate::key::{Key, Rule};
+use crate::layout::Layout;
+use crate::view::View;
 use atomic_table::Table;
 use ground_model::GroundProblem;
 use std::alloc::Global;
 use std::marker::Model;
-use word_layout::Layout;
-use word_view::View;
 
 /// The shared words of a problem. Contracts see the problem, the layout, how many claim rights there are,
 /// and which table it is.
@@ -29,8 +29,8 @@ impl<'p> Model for Words<'p> {
     ghost use Rattle.std.specs.Prelude.{◌≡◌};
     ghost use Rattle.std.specs.Coded.{codes};
     ghost use Rattle.ground_model.specs.contracts.condition.GroundCondition as condition;
-    ghost use Rattle.word_layout.specs.Places as places;
-    ghost use Rattle.word_rule.specs.Rule.{IsTable};
+    ghost use Rattle.word_table.specs.layout.Places as places;
+    ghost use Rattle.word_table.specs.rule.Rule.{IsTable};
     ghost use Rattle.word_table.specs.Seen.{Board, board};
 
     ghost Value = { Board };

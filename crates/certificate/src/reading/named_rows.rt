@@ -1,6 +1,6 @@
 //! The lines of rows of version 1.
 
-ghost use Rattle.std.specs.Prelude.{◌≡◌, ◌+◌, ◌≤◌, None, option_map};
+ghost use Rattle.std.specs.Prelude.{◌+◌, ◌≤◌, None};
 ghost use Rattle.std.specs.Option.{option_copied};
 ghost use Rattle.certificate.specs.Decoding.{parts, named_act_at, atoms_of, named_row_of};
 ghost use Rattle.certificate.specs.Counted.{or_syntax, item_at, items_at, stop_at};

@@ -1,6 +1,6 @@
 //! The lines of tables.
 
-ghost use Rattle.std.specs.Prelude.{◌≡◌, ◌+◌, ◌≤◌, None, IfOk};
+ghost use Rattle.std.specs.Prelude.{◌+◌, ◌≤◌, None, IfOk};
 ghost use Rattle.std.specs.Option.{option_copied};
 ghost use Rattle.certificate.specs.Decoding.{parts};
 ghost use Rattle.certificate.specs.Counted.{item_at, items_at, stop_at};

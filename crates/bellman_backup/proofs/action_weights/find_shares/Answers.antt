@@ -1,5 +1,5 @@
 use Rattle.std.proofs.Common.{sym}
-use Rattle.distinct_actions.specs.Enough.{RepeatsLast}
+use Rattle.applicable_actions.specs.distinct.Enough.{RepeatsLast}
 use Rattle.bellman_backup.proofs.PlacedWeights.{last_is_placed}
 use Rattle.bellman_backup.proofs.action_weights.find_shares.Goals as goal
 

@@ -1,7 +1,7 @@
 use Rattle.std.proofs.Common.{◌≡◌, Some, sym, ap, ◌∙◌, subst}
 use Rattle.std.specs.Arc.{arc_value}
 use Rattle.ground_model.specs.Ground.{Ground}
-use Rattle.word_view.specs.Laws.{HasMore}
+use Rattle.word_table.specs.view.Laws.{HasMore}
 use Rattle.word_table.specs.Seen.{Knowledge}
 use Rattle.kept_transitions.specs.Rows.{IsKept, Transitions}
 use Rattle.bellman_backup.specs.Scratches.{ScratchView, AreBuffers}

@@ -7,7 +7,7 @@ use Rattle.ground_model.specs.Choices.{after, next_state}
 use Rattle.ground_model.specs.Invariant.{IsChoice}
 use Rattle.ground_model.proofs.Packed.{length-packed}
 use Rattle.ground_step.proofs.Outcomes.{cost_within}
-use Rattle.word_view.specs.Views.{IsReached}
+use Rattle.word_table.specs.view.Views.{IsReached}
 use Rattle.bellman_backup.specs.Totals.{HasReadNext}
 use Rattle.bellman_backup.proofs.Stepping.{reached_later, step_is_small, read_goes_on}
 use Rattle.bellman_backup.proofs.outcomes.read_action.Goals as goal

@@ -1,5 +1,5 @@
 use Rattle.std.proofs.Common.{sym, ap, subst, ◌∙◌}
-use Rattle.word_rule.specs.Told.{HasOneState}
+use Rattle.word_table.specs.rule.Told.{HasOneState}
 use Rattle.word_table.specs.Seen.{Knowledge}
 use Rattle.bellman_backup.specs.Races.{has_more_again}
 use Rattle.bellman_backup.proofs.Keeping.{keeps_again, keeps_count, meets}

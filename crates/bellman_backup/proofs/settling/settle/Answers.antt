@@ -1,5 +1,5 @@
 use Rattle.std.proofs.Common.{sym, subst}
-use Rattle.word_rule.specs.Told.{HasOneEach}
+use Rattle.word_table.specs.rule.Told.{HasOneEach}
 use Rattle.word_table.specs.Seen.{Knowledge}
 use Rattle.bellman_backup.proofs.Keeping.{keeps_again, keeps_count, keeps_raised}
 use Rattle.bellman_backup.proofs.Finishing.{may_raise, may_sink}

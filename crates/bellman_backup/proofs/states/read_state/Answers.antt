@@ -1,7 +1,7 @@
 use Rattle.std.proofs.Common.{◌≡◌, ◌+◌, ◌<◌, ℕ, List, length, slice_set, sym, ap, ◌∙◌, subst, arith}
 use Rattle.std.proofs.Math.ListN.{length-set}
-use Rattle.word_layout.specs.declared.layout.Layout.{Layout}
-use Rattle.word_view.specs.Steps.{with_state_word}
+use Rattle.word_table.specs.declared.layout.Layout.{Layout}
+use Rattle.word_table.specs.view.Steps.{with_state_word}
 use Rattle.word_table.specs.Seen.{Knowledge}
 use Rattle.bellman_backup.proofs.Keeping.{keeps_again, keeps_word, grows}
 use Rattle.bellman_backup.proofs.WordsRead.{AreNoted, noted_more, has_noted, state_is_read}

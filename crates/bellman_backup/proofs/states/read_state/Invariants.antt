@@ -1,7 +1,7 @@
 -- The words so far were read, and noted.
 use Rattle.std.proofs.Common.{◌≡◌, ◌<◌, length}
 use Rattle.bound_core.specs.Core.{width}
-use Rattle.word_rule.specs.Told.{HasOneState}
+use Rattle.word_table.specs.rule.Told.{HasOneState}
 use Rattle.bellman_backup.specs.Backups.{Keeps}
 use Rattle.bellman_backup.proofs.WordsRead.{AreNoted}
 use Rattle.bellman_backup.proofs.states.read_state.Given as goal

@@ -1,6 +1,6 @@
 use Rattle.std.proofs.Common.{◌≡◌, ◌/◌, ◌≤◌, sym, subst, arith}
-use Rattle.word_view.specs.Views.{noted_lower, CanSink}
-use Rattle.word_rule.specs.Told.{HasOneEach}
+use Rattle.word_table.specs.view.Views.{noted_lower, CanSink}
+use Rattle.word_table.specs.rule.Told.{HasOneEach}
 use Rattle.word_table.specs.Seen.{Knowledge}
 use Rattle.bellman_backup.proofs.Keeping.{keeps_again, keeps_count, grows}
 use Rattle.bellman_backup.proofs.Finishing.{may_raise, may_sink}

@@ -1,6 +1,6 @@
 use Rattle.std.proofs.Common.{sym, subst}
-use Rattle.word_view.specs.Views.{CanRaise}
-use Rattle.word_rule.specs.Told.{HasOneEach}
+use Rattle.word_table.specs.view.Views.{CanRaise}
+use Rattle.word_table.specs.rule.Told.{HasOneEach}
 use Rattle.word_table.specs.Seen.{Knowledge}
 use Rattle.bellman_backup.proofs.Keeping.{keeps_all, keeps_raised}
 use Rattle.bellman_backup.proofs.unasked.raise_from.Goals as goal

@@ -1,7 +1,7 @@
 use Rattle.std.proofs.Common.{◌≡◌, ◌∙◌, false, sym, ap, subst, arith}
 use Rattle.ground_model.specs.Ground.{Ground}
 use Rattle.ground_model.specs.Steps.{ground_process}
-use Rattle.distinct_actions.specs.Enough.{AreEnough}
+use Rattle.applicable_actions.specs.distinct.Enough.{AreEnough}
 use Rattle.bellman_backup.specs.Scratches.{ScratchView}
 use Rattle.bellman_backup.proofs.Keeping.{keeps_again}
 use Rattle.bellman_backup.proofs.Finishing.{has_weighed}

@@ -1,5 +1,5 @@
 use Rattle.std.proofs.Common.{subst}
-use Rattle.word_rule.specs.Told.{TellsUpper}
+use Rattle.word_table.specs.rule.Told.{TellsUpper}
 use Rattle.word_table.specs.Seen.{Knowledge}
 use Rattle.bound_words.proofs.Narrow.{interval_is_told}
 use Rattle.bound_words.proofs.reading.interval.Goals as goal

@@ -4,7 +4,7 @@ use Rattle.ground_model.specs.Choices.{after, cost_of, next_state}
 use Rattle.ground_model.specs.Packed.{has_bit}
 use Rattle.ground_model.specs.declared.action.Choice.{Choice}
 use Rattle.ground_model.specs.Packed.{State}
-use Rattle.weighted.specs.Mean.{total}
+use Rattle.plain_list.specs.weighted.Mean.{total}
 use Rattle.core_run.specs.Boards.{numbers}
 use Rattle.ground_model.proofs.Packed.{length-packed}
 use Rattle.core_run.proofs.ActionValues.{choice_costs, term_within, total_more}

@@ -1,6 +1,6 @@
 -- The sum so far is that of the first choices, and no choice adds more than a number that leaves room.
 use Rattle.std.proofs.Common.{◌≡◌, ◌≤◌, ◌*◌, ◌^◌, ◌+◌, length, take}
-use Rattle.weighted.specs.Mean.{total}
+use Rattle.plain_list.specs.weighted.Mean.{total}
 use Rattle.ground_model.specs.Choices.{cost_of, next_state}
 use Rattle.ground_model.specs.Packed.{has_bit}
 use Rattle.ground_model.specs.declared.action.Choice.{Choice}

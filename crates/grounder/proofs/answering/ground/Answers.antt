@@ -1,11 +1,11 @@
 use Rattle.std.proofs.Common.{◌≡◌, sym, ap, subst, ◌∙◌}
-use Rattle.std.specs.Prelude.{Err, Ok}
+use Rattle.std.specs.Prelude.{Ok}
 use Rattle.std.proofs.lemmas.Result.{err_from_is_err_and}
 use Rattle.ppddl_model.specs.declared.tree.Task.{Task}
 use Rattle.ppddl_model.specs.Steps as model
 use Rattle.ppddl_model.specs.Steps.{base_cost}
-use Rattle.grounding.specs.Limits.{grounded}
-use Rattle.task_charges.specs.Charges.{step_charges}
+use Rattle.ground_meaning.specs.refusals.Limits.{grounded}
+use Rattle.grounder.specs.costs.Charges.{step_charges}
 use Rattle.grounder.specs.declared.parts.Parts.{Parts}
 use Rattle.grounder.specs.Answers.{terms_of, Refuses, Answers}
 use Rattle.grounder.proofs.Limiting.{handed_on}

@@ -1,7 +1,7 @@
 use Rattle.std.proofs.Common.{ap, ◌∙◌}
 use Rattle.plain_list.specs.Texts.{compare_texts, rises}
 use Rattle.ppddl_model.specs.Changing.{facts, changing_atoms}
-use Rattle.grounding.proofs.Order.{texts_rise}
+use Rattle.ground_meaning.proofs.lemmas.refusals.Order.{texts_rise}
 use Rattle.grounder.proofs.names.names_of.Goals as goal
 
 pub name_set-requires : goal.name_set-requires

@@ -2,7 +2,7 @@ use Rattle.std.proofs.Common.{◌≡◌, ◌+◌, ◌≤◌, true, false, length
 use Rattle.std.specs.List.{list_any}
 use Rattle.ppddl_model.specs.State.{same_name}
 use Rattle.type_table.specs.Numbered.{with_name}
-use Rattle.numbered_atoms.proofs.Adding.{name_more, name_end}
+use Rattle.task_instances.proofs.lemmas.fact_rows.Adding.{name_more, name_end}
 use Rattle.grounder.specs.ObjectNames.{object_name}
 use Rattle.grounder.proofs.Counting.{same_with, one_more}
 use Rattle.grounder.proofs.objects.add_names.Goals as goal

@@ -1,5 +1,5 @@
 use Rattle.std.proofs.Common.{◌≡◌, ◌+◌, ◌≤◌, length, map, drop}
-use Rattle.numbered_atoms.specs.Adding.{with_names}
+use Rattle.task_instances.specs.fact_rows.Adding.{with_names}
 use Rattle.grounder.specs.ObjectNames.{object_name}
 use Rattle.grounder.proofs.objects.add_names.Given as goal
 

@@ -1,6 +1,6 @@
 use Rattle.std.proofs.Common.{ap, sym, ◌∙◌}
 use Rattle.std.specs.Option.{option_map}
-use Rattle.task_charges.specs.Charges.{charged_with}
+use Rattle.grounder.specs.costs.Charges.{charged_with}
 use Rattle.grounder.specs.Answers.{terms_of}
 use Rattle.grounder.proofs.Counting.{no_penalty_first, too_many}
 use Rattle.grounder.proofs.objects.early.Goals as goal

@@ -1,7 +1,7 @@
 use Rattle.std.proofs.Common.{map, ap, ◌∙◌}
 use Rattle.std.specs.Prelude.{nat_le}
-use Rattle.grounding.specs.declared.limits.TheConstants.{MOST_OBJECTS}
-use Rattle.numbered_atoms.specs.Adding.{with_names}
+use Rattle.ground_meaning.specs.declared.refusals.limits.TheConstants.{MOST_OBJECTS}
+use Rattle.task_instances.specs.fact_rows.Adding.{with_names}
 use Rattle.grounder.specs.ObjectNames.{object_name}
 use Rattle.grounder.proofs.Counting.{counted_all}
 use Rattle.grounder.proofs.objects.has_few_objects.Goals as goal

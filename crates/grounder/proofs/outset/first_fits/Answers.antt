@@ -1,17 +1,16 @@
-use Rattle.std.proofs.Common.{◌≡◌, ◌<◌, ◌+◌, ℕ, length, get_or, arith, subst, sym, ap, ◌∙◌}
+use Rattle.std.proofs.Common.{◌≡◌, ◌<◌, length, get_or, arith, subst, sym, ap, ◌∙◌}
 use Rattle.std.specs.Prelude.{flat_map}
 use Rattle.std.specs.List.{AllZip}
 use Rattle.std.proofs.lemmas.Bool.{leb-false}
 use Rattle.ppddl_model.specs.declared.tree.Action.{Action}
 use Rattle.ppddl_model.specs.declared.tree.Task.{Task}
 use Rattle.ppddl_model.specs.Objects.{World}
-use Rattle.joint_choices.specs.Limits.{effect_size}
-use Rattle.grounding.specs.declared.limits.LimitCode.TheVariants.{GroundSize}
-use Rattle.grounding.specs.Codes.{most_of}
-use Rattle.ground_sizes.specs.Counted.{counted}
-use Rattle.task_facts.specs.Facts.{table_of}
-use Rattle.kept_bindings.specs.Kept.{AreKept}
-use Rattle.task_atoms.proofs.Gathering.{zip_at, zip_long, kept_by_action}
+use Rattle.ground_meaning.specs.choices.Limits.{effect_size}
+use Rattle.ground_meaning.specs.declared.refusals.limits.LimitCode.TheVariants.{GroundSize}
+use Rattle.ground_meaning.specs.refusals.Codes.{most_of}
+use Rattle.ground_terms.specs.sizes.Counted.{counted}
+use Rattle.task_instances.specs.kept_rows.Kept.{AreKept}
+use Rattle.grounder.proofs.lemmas.changing_atoms.Gathering.{zip_at, zip_long, kept_by_action}
 use Rattle.grounder.proofs.First.{instances_of, next_first, first_large}
 use Rattle.grounder.proofs.outset.first_fits.Goals as goal
 

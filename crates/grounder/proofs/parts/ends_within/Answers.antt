@@ -2,12 +2,12 @@ use Rattle.std.proofs.Common.{◌≡◌, [], sym, ap, subst, ◌∙◌}
 use Rattle.std.specs.Prelude.{Err, Ok}
 use Rattle.std.proofs.lemmas.Result.{err_from_is_err_and}
 use Rattle.ppddl_model.specs.declared.tree.Task.{Task}
-use Rattle.joint_choices.specs.Numbering.{ground_condition}
-use Rattle.grounding.specs.Starts.{Starts}
-use Rattle.ground_sizes.specs.Valued.{with_values}
-use Rattle.ground_conditions.specs.Bindings.{numbering_of}
-use Rattle.ground_starts.specs.Answers as starts
-use Rattle.ground_starts.specs.Answers.{starts_or_refusal}
+use Rattle.ground_meaning.specs.choices.Numbering.{ground_condition}
+use Rattle.ground_meaning.specs.refusals.Starts.{Starts}
+use Rattle.ground_terms.specs.sizes.Valued.{with_values}
+use Rattle.outcome_dist.specs.conditions.Bindings.{numbering_of}
+use Rattle.grounder.specs.starts.Answers as starts
+use Rattle.grounder.specs.starts.Answers.{starts_or_refusal}
 use Rattle.grounder.specs.Limited.{Limited, ended}
 use Rattle.grounder.specs.Parts.{IsEndOf}
 use Rattle.grounder.proofs.Limiting.{handed_on}

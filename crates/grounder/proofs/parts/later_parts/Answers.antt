@@ -1,11 +1,11 @@
 use Rattle.std.proofs.Common.{◌≡◌, List, map, subst}
-use Rattle.std.specs.Prelude.{Err, Result}
+use Rattle.std.specs.Prelude.{Err}
 use Rattle.std.proofs.lemmas.Result.{err_from_is_err_and}
 use Rattle.ppddl_model.specs.declared.tree.Task.{Task}
 use Rattle.ppddl_model.specs.Changing.{kept_instances}
 use Rattle.ground_model.specs.declared.action.GroundAction.{GroundAction}
-use Rattle.grounding.specs.Problem.{ground_action}
-use Rattle.early_limits.specs.Laws.{later_limits}
+use Rattle.ground_meaning.specs.refusals.Problem.{ground_action}
+use Rattle.grounder.specs.limits.Laws.{later_limits}
 use Rattle.grounder.specs.Limited.{Limited, sized, ended}
 use Rattle.grounder.specs.Parts.{IsEndOf, ArePartsOf}
 use Rattle.grounder.proofs.Limiting.{refused_on, refused_as, passed_on, handed_on}

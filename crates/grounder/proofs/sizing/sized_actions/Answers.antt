@@ -1,8 +1,8 @@
 use Rattle.std.proofs.Common.{◌≡◌, ap, ◌∙◌}
 use Rattle.ppddl_model.specs.declared.tree.Task.{Task}
-use Rattle.joint_choices.specs.Limits.{condition_size}
-use Rattle.ground_sizes.specs.Counted.{counted}
-use Rattle.task_facts.specs.Facts.{table_of}
+use Rattle.ground_meaning.specs.choices.Limits.{condition_size}
+use Rattle.ground_terms.specs.sizes.Counted.{counted}
+use Rattle.task_instances.specs.facts.Facts.{table_of}
 use Rattle.grounder.proofs.Totals.{goal_above, goal_within}
 use Rattle.grounder.proofs.sizing.sized_actions.Goals as goal
 

@@ -1,28 +1,28 @@
 use Rattle.std.proofs.Common.{rules, ◌≡◌, ℕ, ◌+◌, ◌-◌, ◌*◌, ◌≤◌, [], ◌∷◌, ◌++◌, List, length, take, drop, map, get_or, true≢false, refl, sym, ap, subst, ◌∙◌, arith}
 use Rattle.std.specs.Prelude.{◌==◌, All, IfOk, IfErr, flat_map}
-use Rattle.weighted.specs.Mean.{total}
+use Rattle.plain_list.specs.weighted.Mean.{total}
 use Rattle.ppddl_model.specs.declared.tree.Branch.{Branch}
 use Rattle.ppddl_model.specs.declared.tree.Effect.{Effect}
 use Rattle.ppddl_model.specs.Objects.{World, Binding, bindings}
 use Rattle.ppddl_model.specs.State.{Name}
 use Rattle.ground_model.specs.declared.action.Choice.{Choice}
 use Rattle.ground_model.specs.declared.limits.TheConstants.{MOST_CHOICES}
-use Rattle.joint_choices.specs.Numbering.{Numbering}
-use Rattle.joint_choices.specs.Joint.{idle, guard, choices, with_factor}
-use Rattle.joint_choices.specs.Limits.{widest}
-use Rattle.joint_choices.proofs.Invariant.{choices_weigh}
+use Rattle.ground_meaning.specs.choices.Numbering.{Numbering}
+use Rattle.ground_meaning.specs.choices.Joint.{idle, guard, choices, with_factor}
+use Rattle.ground_meaning.specs.choices.Limits.{widest}
+use Rattle.ground_meaning.proofs.lemmas.choices.Invariant.{choices_weigh}
 use Rattle.type_table.specs.Types.{object_at}
-use Rattle.ground_names.specs.Scopes.{binding_of}
-use Rattle.choice_lists.specs.Piles.{Weighs, merging}
-use Rattle.choice_lists.specs.Refusals.{IsTooMany}
-use Rattle.ground_conditions.specs.Bindings.{world_of, numbering_of}
+use Rattle.ground_terms.specs.terms.Scopes.{binding_of}
+use Rattle.outcome_dist.specs.lists.Piles.{Weighs, merging}
+use Rattle.outcome_dist.specs.lists.Refusals.{IsTooMany}
+use Rattle.outcome_dist.specs.conditions.Bindings.{world_of, numbering_of}
 use Rattle.outcome_dist.specs.Draws.{IsWide, drawn, width, branches_width}
 use Rattle.outcome_dist.proofs.EffectForms.{ch, wi, mass, branch_mass, mass-Both, mass-Forall, mass-When, mass-Chance, part-within}
 use Rattle.outcome_dist.proofs.EffectForms.{choices-Both, width-Both, choices-Forall, width-Forall, choices-When, width-When, choices-Chance, width-Chance}
 use Rattle.outcome_dist.proofs.EffectForms.{first_variable, flat-map, tail_is, ok_always, drop-all}
 use Rattle.outcome_dist.proofs.Walks.{walk_start, walk_list, walk_one, walk_many, part_refused, put_refused, many_refused, drop_at}
 use Rattle.outcome_dist.proofs.Gathering.{whole, gathered_list, gathered_more, gather_refused, with_the_rest, rest_refused, all_narrow, branch_is, whole_same, width_is}
-use Rattle.ground_conditions.proofs.GroundSteps.{no_ways}
+use Rattle.outcome_dist.proofs.lemmas.conditions.GroundSteps.{no_ways}
 use Rattle.outcome_dist.proofs.drawing.+drawing.Goals as goal
 
 -- ---- calls

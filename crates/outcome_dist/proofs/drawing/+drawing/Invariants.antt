@@ -1,12 +1,12 @@
 use Rattle.std.proofs.Common.{◌+◌, ◌*◌, [], ◌∷◌, length, drop}
 use Rattle.std.specs.Prelude.{flat_map}
-use Rattle.weighted.specs.Mean.{total}
+use Rattle.plain_list.specs.weighted.Mean.{total}
 use Rattle.ppddl_model.specs.Objects.{bindings}
 use Rattle.type_table.specs.Types.{object_at}
-use Rattle.joint_choices.specs.Joint.{idle, choices}
-use Rattle.joint_choices.specs.Limits.{widest}
-use Rattle.ground_names.specs.Scopes.{binding_of}
-use Rattle.ground_conditions.specs.Bindings.{world_of, numbering_of}
+use Rattle.ground_meaning.specs.choices.Joint.{idle, choices}
+use Rattle.ground_meaning.specs.choices.Limits.{widest}
+use Rattle.ground_terms.specs.terms.Scopes.{binding_of}
+use Rattle.outcome_dist.specs.conditions.Bindings.{world_of, numbering_of}
 use Rattle.outcome_dist.specs.Draws.{drawn, width}
 use Rattle.outcome_dist.proofs.EffectForms.{ch, wi, mass, branch_mass}
 use Rattle.outcome_dist.proofs.Walks.{Walk}

@@ -1,5 +1,5 @@
 -- The ground problem of the texts, behind it the certificate, and behind both the verdict.
-use Rattle.std.proofs.Common.{rules, Ok, Err}
+use Rattle.std.proofs.Common.{rules}
 use Rattle.plan_request.specs.Shown.{shown_sources}
 use Rattle.plan_app.proofs.Flow.{texts_stop, certificate_stops, judged, calls_behind, calls_alone}
 use Rattle.plan_app.proofs.commands.check.Goals as goal

@@ -1,5 +1,5 @@
 -- The ground problem of the texts is reported.
-use Rattle.std.proofs.Common.{rules, sym, ap, Ok}
+use Rattle.std.proofs.Common.{rules}
 use Rattle.plan_request.specs.Shown.{shown_sources}
 use Rattle.plan_app.proofs.Flow.{ground_stops}
 use Rattle.plan_app.proofs.commands.ground.Goals as goal

@@ -1,6 +1,6 @@
 -- What is said of the ending: itself, or that there was no memory for its line.
-use Rattle.std.proofs.Common.{◌≡◌, rules, inl, inr, refl, sym, ◌∙◌, Ok, Err}
-use Rattle.plan_stop.specs.declared.stop.Stop.TheVariants.{WriteFailed, NoMemory}
+use Rattle.std.proofs.Common.{rules, inl, inr, refl, sym, ◌∙◌, Ok, Err}
+use Rattle.plan_request.specs.declared.stop.Stop.TheVariants.{WriteFailed, NoMemory}
 use Rattle.std.proofs.KnownBytes.{Appends-nil}
 use Rattle.plan_app.proofs.program.put_ending.Goals as goal
 

@@ -4,9 +4,9 @@ use Rattle.std.specs.Io.KnownBytes.{Appends}
 use Rattle.shelf_io.specs.Causes.{Rose}
 use Rattle.policy_server.specs.Serving.{input}
 use Rattle.plan_request.specs.Asked.{Solving}
-use Rattle.plan_stop.specs.Stop.{ending_text}
-use Rattle.plan_stop.specs.declared.status.TheConstants.{WRITE_FAILED}
-use Rattle.plan_stop.specs.declared.stop.Stop.TheVariants.{WriteFailed}
+use Rattle.plan_request.specs.stop.Stop.{ending_text}
+use Rattle.plan_request.specs.declared.stop.status.TheConstants.{WRITE_FAILED}
+use Rattle.plan_request.specs.declared.stop.Stop.TheVariants.{WriteFailed}
 use Rattle.plan_app.specs.Asking.{asked_by, AsksToSearch}
 use Rattle.plan_app.specs.Endings.{MayEndAs}
 use Rattle.plan_app.specs.Putting.{PutsAnswers}

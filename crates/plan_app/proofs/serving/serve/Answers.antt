@@ -1,12 +1,12 @@
 -- The ground problem of the texts, what a search of it answers beside a server, and what is written.
-use Rattle.std.proofs.Common.{◌≡◌, ◌⊎◌, inl, inr, rules, sym, ap, refl, subst, Ok, Err, Some}
+use Rattle.std.proofs.Common.{◌≡◌, ◌⊎◌, inl, inr, rules, refl, Ok, Err}
 use Rattle.plan_request.specs.Asked.{to_serve}
 use Rattle.plan_request.specs.Shown.{shown_solving}
 use Rattle.plan_search.specs.declared.answer.Answer.{Answer}
-use Rattle.plan_stop.specs.declared.stop.Stop.{Stop}
-use Rattle.plan_stop.specs.declared.stop.Stop.TheVariants.{WriteFailed}
+use Rattle.plan_request.specs.declared.stop.Stop.{Stop}
+use Rattle.plan_request.specs.declared.stop.Stop.TheVariants.{WriteFailed}
 use Rattle.policy_server.specs.Serving.{input}
-use Rattle.serving_solver.specs.Served.{streams}
+use Rattle.plan_search.specs.service.Served.{streams}
 use Rattle.plan_app.proofs.Exchanges.{counts_on, counts_same}
 use Rattle.plan_app.proofs.Flow.{
   serve_stops,

@@ -2,7 +2,7 @@ use Rattle.std.proofs.Common.{◌++◌, ◌∙◌, ap}
 use Rattle.std.specs.Prelude.{codes}
 use Rattle.ground_step.specs.Atoms.{true_atoms}
 use Rattle.fixed_round.specs.Words.{value_of}
-use Rattle.closing_bounds.specs.Closing.{act_in}
+use Rattle.bound_core.specs.ends.Closing.{act_in}
 use Rattle.plan_report.specs.Units.{units}
 use Rattle.plan_report.specs.Reports.{fraction_text, atoms_text}
 use Rattle.plan_report.specs.StartRows.{row_act_text}

@@ -2,7 +2,7 @@ use Rattle.std.proofs.Common.{◌≡◌, ◌<◌, ◌∙◌, ◌++◌, ap, subst
 use Rattle.std.specs.Prelude.{List}
 use Rattle.std.proofs.lemmas.Grind.{common_steps}
 use Rattle.ground_model.specs.declared.start.Start.{Start}
-use Rattle.closing_bounds.specs.Closing.{closing_rows}
+use Rattle.bound_core.specs.ends.Closing.{closing_rows}
 use Rattle.plan_report.specs.StartRows.{row_line}
 use Rattle.plan_report.specs.Solved.{solved_line}
 use Rattle.plan_report.proofs.Joining.{short_start}

@@ -1,6 +1,6 @@
 use Rattle.std.proofs.Common.{◌≡◌, ◌++◌, take}
 use Rattle.std.specs.List.{flat_map}
-use Rattle.closing_bounds.specs.Closing.{closing_rows}
+use Rattle.bound_core.specs.ends.Closing.{closing_rows}
 use Rattle.plan_report.specs.Solved.{solved_line}
 use Rattle.plan_report.proofs.solved.push_starts.Given as goal
 

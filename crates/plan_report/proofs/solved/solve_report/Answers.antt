@@ -1,8 +1,8 @@
 use Rattle.std.proofs.Common.{◌++◌, ◌∙◌, ap, length}
 use Rattle.std.specs.Prelude.{codes}
 use Rattle.std.specs.List.{flat_map}
-use Rattle.closing_bounds.specs.Closing.{closing_rows}
-use Rattle.closing_bounds.specs.Ends.{closing_low, closing_high}
+use Rattle.bound_core.specs.ends.Closing.{closing_rows}
+use Rattle.bound_core.specs.ends.Ends.{closing_low, closing_high}
 use Rattle.plan_report.specs.Reports.{counted_line, interval_line}
 use Rattle.plan_report.specs.Solved.{ending_line, ending_of, solved_line}
 use Rattle.plan_report.proofs.solved.solve_report.Goals as goal

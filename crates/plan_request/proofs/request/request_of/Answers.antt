@@ -1,7 +1,7 @@
 -- The request of words in form, and of others.
 use Rattle.std.proofs.Common.{sym, subst, ◌∙◌}
-use Rattle.command_words.specs.Parses.{Answers}
-use Rattle.command_words.specs.Shown.{texts_of}
+use Rattle.plan_request.specs.words.Parses.{Answers}
+use Rattle.plan_request.specs.words.Shown.{texts_of}
 use Rattle.plan_request.proofs.Requests.{no_request, a_request}
 use Rattle.plan_request.proofs.request.request_of.Goals as goal
 

@@ -1,5 +1,5 @@
 use Rattle.std.proofs.Common.{rules, ◌≡◌, ◌⊎◌}
-use Rattle.plan_stop.specs.declared.stop.Stop.TheVariants.{NoMemory}
+use Rattle.plan_request.specs.declared.stop.Stop.TheVariants.{NoMemory}
 use Rattle.plan_search.specs.Answers.{IsTooLong}
 use Rattle.plan_search.proofs.Replies.{answered_by, stopped}
 use Rattle.plan_search.proofs.answering.answer_of.Goals as goal

@@ -1,8 +1,8 @@
 -- A name that holds, or may hold, more bytes than a certificate has.
-use Rattle.std.proofs.Common.{◌≡◌, rules, ap, inl, Ok, Err}
+use Rattle.std.proofs.Common.{rules, ap, inl, Err}
 use Rattle.certificate.specs.declared.limits.TheConstants.{MOST_BYTES}
-use Rattle.plan_stop.specs.Stop.{stop_of_certificate}
-use Rattle.plan_stop.specs.declared.stop.Stop.TheVariants.{NotAccepted}
+use Rattle.plan_request.specs.stop.Stop.{stop_of_certificate}
+use Rattle.plan_request.specs.declared.stop.Stop.TheVariants.{NotAccepted}
 use Rattle.plan_sources.specs.Endings.{MayGive}
 use Rattle.plan_sources.specs.Problems.{stopped}
 use Rattle.plan_sources.specs.Sources.{certificate_in}

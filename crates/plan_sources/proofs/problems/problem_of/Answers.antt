@@ -1,5 +1,5 @@
 -- The texts, and behind them their ground problem.
-use Rattle.std.proofs.Common.{◌≡◌, rules, Ok, Err}
+use Rattle.std.proofs.Common.{◌≡◌, rules}
 use Rattle.plan_request.specs.Shown.{shown_sources}
 use Rattle.plan_sources.specs.Endings.{IsFault}
 use Rattle.plan_sources.specs.Problems.{problem_in}

@@ -1,5 +1,5 @@
 -- The task of the texts, and behind it the ground problem.
-use Rattle.std.proofs.Common.{◌≡◌, rules, Ok, Err}
+use Rattle.std.proofs.Common.{◌≡◌, rules}
 use Rattle.plan_request.specs.Shown.{shown_sources}
 use Rattle.plan_sources.specs.Problems.{task_in, ground_task, problem_in}
 use Rattle.plan_sources.proofs.Taking.{stops_whole, ends_whole}

@@ -1,7 +1,7 @@
 -- What is read is the task of the texts.
 use Rattle.std.proofs.Common.{rules}
-use Rattle.token_cursor.specs.Reading.{Fails}
-use Rattle.ppddl_tasks.specs.Texts.{task_of}
+use Rattle.ppddl_cursor.specs.Reading.{Fails}
+use Rattle.ppddl_reader.specs.tasks.Texts.{task_of}
 use Rattle.plan_sources.proofs.Grounding.{task_stops, task_given}
 use Rattle.plan_sources.proofs.tasks.task_in.Goals as goal
 

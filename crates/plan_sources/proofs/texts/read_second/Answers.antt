@@ -1,6 +1,6 @@
 -- The text under the name is the second one.
-use Rattle.std.proofs.Common.{◌≡◌, rules, Ok, Err, Some}
-use Rattle.plan_sources.specs.Endings.{MayEnd, MayGive, IsFault}
+use Rattle.std.proofs.Common.{rules, Ok, Err, Some}
+use Rattle.plan_sources.specs.Endings.{MayGive, IsFault}
 use Rattle.plan_sources.specs.Problems.{text_within}
 use Rattle.plan_sources.specs.Sources.{LacksSecond, MayGiveSecond}
 use Rattle.plan_sources.proofs.Taking.{stops_whole, second_gives}

@@ -1,6 +1,6 @@
 use Rattle.std.proofs.Common.{◌≡◌, ◌≤◌, ◌*◌, ◌+◌}
-use Rattle.token_cursor.specs.Ahead.{size}
-use Rattle.token_cursor.specs.Reading.{rest_at}
+use Rattle.ppddl_cursor.specs.Ahead.{size}
+use Rattle.ppddl_cursor.specs.Reading.{rest_at}
 use Rattle.ppddl_forms.specs.Sequences.{many_behind}
 use Rattle.ppddl_forms.specs.Conditions.{condition, conditions}
 use Rattle.ppddl_forms.proofs.conditions.+condition.Given as goal

@@ -1,6 +1,6 @@
 use Rattle.std.proofs.Common.{◌≡◌, ◌∙◌, ◌++◌, ◌∷◌, [], ap, sym, arith}
 use Rattle.ppddl_model.specs.declared.tree.Branch.{Branch}
-use Rattle.token_cursor.specs.Reading.{one_at, read_to}
+use Rattle.ppddl_cursor.specs.Reading.{one_at, read_to}
 use Rattle.ppddl_forms.specs.Chances.{next_chance}
 use Rattle.ppddl_forms.specs.Effects.{chances_of, effect}
 use Rattle.ppddl_forms.proofs.EffectSteps.{next_branch, chances_push}

@@ -1,6 +1,6 @@
 use Rattle.std.proofs.Common.{◌≡◌, ◌≤◌}
-use Rattle.token_cursor.specs.Ahead.{size}
-use Rattle.token_cursor.specs.Reading.{rest_at}
+use Rattle.ppddl_cursor.specs.Ahead.{size}
+use Rattle.ppddl_cursor.specs.Reading.{rest_at}
 use Rattle.ppddl_forms.specs.Terms.{arguments}
 use Rattle.ppddl_forms.proofs.TermSteps.{Behind}
 use Rattle.ppddl_forms.proofs.terms.read_arguments.Given as goal

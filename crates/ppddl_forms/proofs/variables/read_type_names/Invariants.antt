@@ -1,6 +1,6 @@
 use Rattle.std.proofs.Common.{◌≡◌, ◌≤◌, ◌∷◌, []}
-use Rattle.token_cursor.specs.Ahead.{size}
-use Rattle.token_cursor.specs.Reading.{rest_at}
+use Rattle.ppddl_cursor.specs.Ahead.{size}
+use Rattle.ppddl_cursor.specs.Reading.{rest_at}
 use Rattle.ppddl_forms.specs.Variables.{type_names}
 use Rattle.ppddl_forms.proofs.variables.read_type_names.Given as goal
 

@@ -1,6 +1,6 @@
 -- A walk over the run of the state.
 use Rattle.std.proofs.Common.{ap, ◌∙◌, arith}
-use Rattle.word_layout.specs.declared.layout.Layout.{Layout}
+use Rattle.word_table.specs.declared.layout.Layout.{Layout}
 use Rattle.state_interner.proofs.Going.{goes_then}
 use Rattle.state_interner.proofs.Turns.{turn_is, reached_later, reached_is_wide, walk_is_clear, walk_goes_on, walk_ends}
 use Rattle.state_interner.proofs.Claims.{full_since}

@@ -1,7 +1,7 @@
 -- One word more is noted, or another one.
 use Rattle.std.proofs.Common.{◌≡◌, get_or, refl, sym, ap, ◌∙◌, rules, arith}
 use Rattle.std.proofs.lemmas.Grind.{common_steps}
-use Rattle.word_layout.specs.declared.layout.Layout.{Layout}
+use Rattle.word_table.specs.declared.layout.Layout.{Layout}
 use Rattle.state_interner.proofs.Words.{one_word_more, compares_more, all_compared}
 use Rattle.state_interner.proofs.looking.compare.Goals as goal
 

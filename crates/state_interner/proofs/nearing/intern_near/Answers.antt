@@ -1,6 +1,6 @@
 -- The hints are filled and tried; then the run is walked.
 use Rattle.std.proofs.Common.{ap, ◌∙◌}
-use Rattle.word_layout.specs.declared.layout.Layout.{Layout}
+use Rattle.word_table.specs.declared.layout.Layout.{Layout}
 use Rattle.state_interner.proofs.Going.{goes_then}
 use Rattle.state_interner.proofs.Turns.{reached_later, reached_is_wide}
 use Rattle.state_interner.proofs.Claims.{tells_since}

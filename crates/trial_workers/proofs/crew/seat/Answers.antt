@@ -1,6 +1,6 @@
 use Rattle.std.proofs.Common.{◌≡◌, sym, ap, ◌∙◌, subst}
 use Rattle.std.specs.Arc.{arc_value}
-use Rattle.word_view.specs.Steps.{without_rights}
+use Rattle.word_table.specs.view.Steps.{without_rights}
 use Rattle.word_table.specs.Seen.{Knowledge, knowledge, with_rights}
 use Rattle.bellman_backup.specs.Kept.{KeepsStates}
 use Rattle.trial_workers.specs.Crews.{no_right}

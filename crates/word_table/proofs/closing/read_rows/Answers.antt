@@ -6,8 +6,8 @@ use Rattle.std.proofs.lemmas.List.{take_more_set}
 use Rattle.std.proofs.lemmas.List.Elements.{All-set}
 use Rattle.std.proofs.lemmas.List.FromFn.{length-map-range_with_len}
 use Rattle.bound_core.specs.declared.image.ImageRow.{ImageRow}
-use Rattle.word_layout.specs.Places.{state_at}
-use Rattle.word_rule.specs.Words.{word}
+use Rattle.word_table.specs.layout.Places.{state_at}
+use Rattle.word_table.specs.rule.Words.{word}
 use Rattle.word_table.specs.Closed.{is_held, IsWide}
 use Rattle.word_table.proofs.Ending.{row_more, no_row}
 use Rattle.word_table.proofs.closing.read_rows.Goals as goal

@@ -3,8 +3,8 @@ use Rattle.std.proofs.Common.{◌<◌, ◌∙◌, sym, arith}
 use Rattle.std.specs.Mem.Slots.{slots_items}
 use Rattle.std.proofs.lemmas.Grind.{same_number_lists}
 use Rattle.std.proofs.lemmas.List.FromFn.{length-map-range_with_len, get_or-map-range_with_len}
-use Rattle.word_layout.specs.Places.{state_at}
-use Rattle.word_rule.specs.Words.{word, state_in}
+use Rattle.word_table.specs.layout.Places.{state_at}
+use Rattle.word_table.specs.rule.Words.{word, state_in}
 use Rattle.word_table.proofs.closing.read_state.Goals as goal
 
 pub returns : goal.returns

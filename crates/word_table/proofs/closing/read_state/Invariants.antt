@@ -2,8 +2,8 @@
 use Rattle.std.proofs.Common.{◌≡◌, ◌<◌, ℕ}
 use Rattle.std.specs.Prelude.{get_or, length}
 use Rattle.std.specs.Mem.Slots.{slots_items}
-use Rattle.word_layout.specs.Places.{state_at}
-use Rattle.word_rule.specs.Words.{word}
+use Rattle.word_table.specs.layout.Places.{state_at}
+use Rattle.word_table.specs.rule.Words.{word}
 use Rattle.word_table.proofs.closing.read_state.Given as goal
 
 abbrev pub invariant-loop-place : goal.invariant-loop-place

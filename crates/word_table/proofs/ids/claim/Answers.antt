@@ -1,5 +1,5 @@
 use Rattle.std.proofs.Common.{◌≡◌, ◌<◌, None, sym, ap, ◌∙◌, subst}
-use Rattle.word_layout.specs.declared.layout.Layout.{Layout}
+use Rattle.word_table.specs.declared.layout.Layout.{Layout}
 use Rattle.word_table.specs.Seen.{Knowledge, Board}
 use Rattle.word_table.proofs.Allowed.{claim_allowed}
 use Rattle.word_table.proofs.Calls.{same_table, view_of_key, count_is_a_word}

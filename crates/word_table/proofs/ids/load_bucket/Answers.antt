@@ -1,7 +1,7 @@
 use Rattle.std.proofs.Common.{◌<◌, ◌-◌, sym, ap, subst, arith, rules}
-use Rattle.word_layout.specs.declared.layout.Layout.{Layout}
-use Rattle.word_view.specs.Steps.{with_empty}
-use Rattle.word_rule.specs.Told.{TellsNone}
+use Rattle.word_table.specs.declared.layout.Layout.{Layout}
+use Rattle.word_table.specs.view.Steps.{with_empty}
+use Rattle.word_table.specs.rule.Told.{TellsNone}
 use Rattle.word_table.specs.Plays.{Mine}
 use Rattle.word_table.specs.Seen.{Board, Knowledge}
 use Rattle.word_table.proofs.Allowed.{look_allowed}

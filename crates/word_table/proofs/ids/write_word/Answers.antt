@@ -1,7 +1,7 @@
 use Rattle.std.proofs.Common.{◌<◌, sym, ap, ◌∙◌, subst}
-use Rattle.word_layout.specs.declared.layout.Layout.{Layout}
-use Rattle.word_layout.specs.Places.{state_at}
-use Rattle.word_view.specs.Steps.{with_written}
+use Rattle.word_table.specs.declared.layout.Layout.{Layout}
+use Rattle.word_table.specs.layout.Places.{state_at}
+use Rattle.word_table.specs.view.Steps.{with_written}
 use Rattle.word_table.specs.Plays.{Mine}
 use Rattle.word_table.specs.Seen.{Board}
 use Rattle.word_table.proofs.Allowed.{write_allowed}

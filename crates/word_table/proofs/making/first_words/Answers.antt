@@ -2,7 +2,7 @@ use Rattle.std.proofs.Common.{◌≡◌, ◌+◌, ◌∙◌, length, take, Some,
 use Rattle.std.specs.List.{slice_get}
 use Rattle.std.proofs.lemmas.List.{take_at}
 use Rattle.std.proofs.lemmas.Option.{slice_get_read}
-use Rattle.word_rule.specs.Made.{AreMade}
+use Rattle.word_table.specs.rule.Made.{AreMade}
 use Rattle.word_table.proofs.Filling.{first_is_wide, one_more_is_made}
 use Rattle.word_table.proofs.Turns.{made_has_free}
 use Rattle.word_table.proofs.making.first_words.Goals as goal

@@ -1,9 +1,9 @@
 use Rattle.std.proofs.Common.{◌∙◌, List, ℕ, [], length, refl, sym, ap, subst}
 use Rattle.atomic_table.specs.Table.{opening}
 use Rattle.ground_model.specs.Packed.{State}
-use Rattle.word_view.specs.Steps.{first_view}
-use Rattle.word_rule.specs.Rule.{IsTable, Holds}
-use Rattle.word_rule.proofs.Made.{made_holds}
+use Rattle.word_table.specs.view.Steps.{first_view}
+use Rattle.word_table.specs.rule.Rule.{IsTable, Holds}
+use Rattle.word_table.proofs.lemmas.rule.Made.{made_holds}
 use Rattle.word_table.specs.declared.key.Key.{Key}
 use Rattle.word_table.specs.Made.{states_in}
 use Rattle.word_table.specs.Plays.{Mine}

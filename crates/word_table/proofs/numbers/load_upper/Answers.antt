@@ -1,8 +1,8 @@
 use Rattle.std.proofs.Common.{sym, ap, subst, ◌∙◌}
-use Rattle.word_layout.specs.Places.{upper_at}
-use Rattle.word_view.specs.Steps.{with_upper_load}
-use Rattle.word_view.specs.Views.{knows}
-use Rattle.word_rule.specs.Told.{TellsUpper}
+use Rattle.word_table.specs.layout.Places.{upper_at}
+use Rattle.word_table.specs.view.Steps.{with_upper_load}
+use Rattle.word_table.specs.view.Views.{knows}
+use Rattle.word_table.specs.rule.Told.{TellsUpper}
 use Rattle.word_table.specs.Plays.{Mine}
 use Rattle.word_table.specs.Seen.{Knowledge}
 use Rattle.word_table.proofs.Allowed.{upper_load_allowed}

@@ -1,7 +1,7 @@
 use Rattle.std.proofs.Common.{sym, ap, subst, ◌∙◌}
-use Rattle.word_layout.specs.Places.{lower_at}
-use Rattle.word_view.specs.Steps.{with_lower}
-use Rattle.word_view.specs.Views.{CanRaise}
+use Rattle.word_table.specs.layout.Places.{lower_at}
+use Rattle.word_table.specs.view.Steps.{with_lower}
+use Rattle.word_table.specs.view.Views.{CanRaise}
 use Rattle.word_table.specs.Plays.{Mine}
 use Rattle.word_table.specs.Seen.{Knowledge}
 use Rattle.word_table.proofs.Allowed.{raise_allowed}

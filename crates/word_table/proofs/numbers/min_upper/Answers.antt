@@ -1,7 +1,7 @@
 use Rattle.std.proofs.Common.{sym, ap, subst, ◌∙◌}
-use Rattle.word_layout.specs.Places.{upper_at}
-use Rattle.word_view.specs.Steps.{with_upper}
-use Rattle.word_view.specs.Views.{CanSink}
+use Rattle.word_table.specs.layout.Places.{upper_at}
+use Rattle.word_table.specs.view.Steps.{with_upper}
+use Rattle.word_table.specs.view.Views.{CanSink}
 use Rattle.word_table.specs.Plays.{Mine}
 use Rattle.word_table.specs.Seen.{Knowledge}
 use Rattle.word_table.proofs.Allowed.{sink_allowed}

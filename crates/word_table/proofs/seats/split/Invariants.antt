@@ -1,6 +1,6 @@
 -- After so many turns so many rights have gone over.
 use Rattle.std.proofs.Common.{◌≡◌, ◌-◌}
-use Rattle.word_view.specs.Steps.{without_rights}
+use Rattle.word_table.specs.view.Steps.{without_rights}
 use Rattle.word_table.specs.Seen.{knowledge, with_rights}
 use Rattle.word_table.proofs.seats.split.Given as goal
 

@@ -1,7 +1,7 @@
 -- The certificate and the rows say the same of each start.
 use Rattle.std.proofs.Common.{◌≡◌, ◌∙◌, ap, subst}
 use Rattle.std.specs.Prelude.{IfOk, List, ℕ}
-use Rattle.closing_bounds.specs.Closing.{closing_rows}
+use Rattle.bound_core.specs.ends.Closing.{closing_rows}
 use Rattle.plan_report.specs.Solved.{solve_text, solved_of}
 use Rattle.plan_search.proofs.Replies.{one_report}
 use Rattle.plan_search.proofs.found.Found.report.Goals as goal

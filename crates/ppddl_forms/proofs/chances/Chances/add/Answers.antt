@@ -1,5 +1,5 @@
 use Rattle.std.proofs.Common.{◌≡◌}
-use Rattle.token_cursor.specs.Reading.{fails}
+use Rattle.ppddl_cursor.specs.Reading.{fails}
 use Rattle.ppddl_model.specs.declared.refusal.TextCode.TheVariants.{Probability, SumAboveOne}
 use Rattle.ppddl_forms.specs.Chances.{within}
 use Rattle.ppddl_forms.proofs.Sums.{too_large, too_many, is_within, runs_on}

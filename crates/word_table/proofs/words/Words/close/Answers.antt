@@ -3,8 +3,8 @@ use Rattle.std.specs.Mem.Slots.{slots_items}
 use Rattle.atomic_table.specs.Table.{Final, Seen}
 use Rattle.ground_model.specs.Ground.{Ground}
 use Rattle.bound_core.specs.declared.image.Image.{Image}
-use Rattle.word_layout.specs.declared.layout.Layout.{Layout}
-use Rattle.word_rule.specs.Rule.{Holds}
+use Rattle.word_table.specs.declared.layout.Layout.{Layout}
+use Rattle.word_table.specs.rule.Rule.{Holds}
 use Rattle.word_table.specs.Seen.{Board, Knowledge}
 use Rattle.word_table.specs.Closed.{IsImage, image_in}
 use Rattle.word_table.proofs.Calls.{own_view}

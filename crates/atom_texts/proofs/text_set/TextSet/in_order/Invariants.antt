@@ -1,6 +1,0 @@
-use Rattle.std.proofs.Common.{◌≡◌}
-use Rattle.atom_texts.specs.Texts.{with_texts}
-use Rattle.atom_texts.proofs.text_set.TextSet.in_order.Given as goal
-
-abbrev pub invariant-loop-text : goal.invariant-loop-text
-invariant-loop-text l = with_texts l.ordered.keys l.text-iterator ≡ l.fn.self

@@ -1,6 +1,0 @@
-use Rattle.std.proofs.Common.{◌≡◌, map, drop}
-use Rattle.atom_texts.specs.Texts.{with_texts, atom_text}
-use Rattle.atom_texts.proofs.texts.add_atoms.Given as goal
-
-abbrev pub invariant-loop-atom : goal.invariant-loop-atom
-invariant-loop-atom l = with_texts l.texts (map atom_text (drop l.atom-index l.atoms)) ≡ with_texts l.fn.texts (map atom_text l.atoms)

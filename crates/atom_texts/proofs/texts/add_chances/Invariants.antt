@@ -1,7 +1,0 @@
-use Rattle.std.proofs.Common.{◌≡◌, drop}
-use Rattle.std.specs.Prelude.{flat_map}
-use Rattle.atom_texts.specs.Texts.{with_texts, chance_texts}
-use Rattle.atom_texts.proofs.texts.add_chances.Given as goal
-
-abbrev pub invariant-loop-item : goal.invariant-loop-item
-invariant-loop-item l = with_texts l.texts (flat_map chance_texts (drop l.item-index l.items)) ≡ with_texts l.fn.texts (flat_map chance_texts l.items)

@@ -1,7 +1,0 @@
-use Rattle.std.proofs.Common.{◌≡◌, [], drop}
-use Rattle.std.specs.Prelude.{flat_map}
-use Rattle.atom_texts.specs.Texts.{with_texts, fact_texts}
-use Rattle.atom_texts.proofs.texts.fact_texts.Given as goal
-
-abbrev pub invariant-loop-item : goal.invariant-loop-item
-invariant-loop-item l = with_texts l.texts (flat_map fact_texts (drop l.item-index l.items)) ≡ with_texts [] (flat_map fact_texts l.items)

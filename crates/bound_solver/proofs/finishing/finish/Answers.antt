@@ -1,5 +1,0 @@
-use Rattle.bound_solver.proofs.Ending.{image_is_ended}
-use Rattle.bound_solver.proofs.finishing.finish.Goals as goal
-
-pub returns : goal.returns
-returns c = image_is_ended c.args.words c.args.pass.view c.in-Ok.image c.in-Ok.ensures.ok

@@ -1,7 +1,0 @@
-use Rattle.std.proofs.Common.{◌≡◌, drop}
-use Rattle.ground_step.specs.Edits.{with_atoms}
-use Rattle.closing_certificate.specs.Kept.{atoms_in}
-use Rattle.closing_certificate.proofs.atoms.mark_all.Given as goal
-
-abbrev pub invariant-loop-row : goal.invariant-loop-row
-invariant-loop-row l = with_atoms l.marks (atoms_in (drop l.row-index l.rows)) ≡ with_atoms l.initial.marks (atoms_in l.rows)

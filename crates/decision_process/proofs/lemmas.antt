@@ -1,0 +1,2 @@
+pub mod homomorphism
+pub mod sweeps

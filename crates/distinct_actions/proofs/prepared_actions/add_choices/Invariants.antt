@@ -1,6 +1,0 @@
--- The choices so far stand behind the others.
-use Rattle.std.proofs.Common.{◌≡◌, ◌++◌, take}
-use Rattle.distinct_actions.proofs.prepared_actions.add_choices.Given as goal
-
-abbrev pub invariant-loop-choice : goal.invariant-loop-choice
-invariant-loop-choice l = l.into.items ≡ l.initial.into.items ++ take l.choice-index l.choices

@@ -1,5 +1,0 @@
-use Rattle.std.proofs.Common.{◌≡◌, take}
-use Rattle.distinct_actions.proofs.same.+conditions.Given as goal
-
-abbrev pub invariant-same_conditions-loop-place : goal.invariant-same_conditions-loop-place
-invariant-same_conditions-loop-place l = take l.place l.some ≡ take l.place l.others

@@ -1,8 +1,0 @@
-//! The early limits among all limits.
-
-ghost use Rattle.early_limits.specs.Laws.{LimitsBegin};
-
-/// All limits of a task are the early ones, and then the later ones.
-pub fn limit_laws()
-    ensures { LimitsBegin }
-{}

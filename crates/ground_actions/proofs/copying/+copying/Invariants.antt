@@ -1,5 +1,0 @@
-use Rattle.std.proofs.Common.{◌≡◌, take}
-use Rattle.ground_actions.proofs.copying.+copying.Given as goal
-
-abbrev pub invariant-copied_conditions-loop-condition : goal.invariant-copied_conditions-loop-condition
-invariant-copied_conditions-loop-condition l = l.copies.items ≡ take l.condition-index l.conditions

@@ -1,9 +1,0 @@
-use Rattle.std.proofs.Common.{◌≡◌, drop}
-use Rattle.std.specs.Prelude.{flat_map}
-use Rattle.ground_actions.specs.Growing.{kept_instances_of, with_instances}
-use Rattle.ground_actions.proofs.walking.add_actions.Given as goal
-
-abbrev pub invariant-loop-place : goal.invariant-loop-place
-invariant-loop-place l =
-    with_instances l.facts l.base l.grown (flat_map (kept_instances_of l.facts) (drop l.place l.actions))
-    ≡ with_instances l.facts l.base l.fn.before (flat_map (kept_instances_of l.facts) l.actions)

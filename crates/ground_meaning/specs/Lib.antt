@@ -1,0 +1,4 @@
+pub mod choices
+pub mod stands
+pub mod refusals
+pub mod progress

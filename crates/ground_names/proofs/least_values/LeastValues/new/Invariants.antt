@@ -1,6 +1,0 @@
-use Rattle.std.proofs.Common.{take}
-use Rattle.ground_names.specs.Values.{AreLeast}
-use Rattle.ground_names.proofs.least_values.LeastValues.new.Given as goal
-
-abbrev pub invariant-loop-item : goal.invariant-loop-item
-invariant-loop-item l = AreLeast (take l.item-index l.items) l.numbers

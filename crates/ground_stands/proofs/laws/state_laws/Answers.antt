@@ -1,9 +1,0 @@
--- The laws of states, by their lemmas.
-use Rattle.ground_stands.proofs.Texts.{changing_by_bits, others_by_facts}
-use Rattle.ground_stands.proofs.laws.state_laws.Goals as goal
-
-pub returns-clause-changing : goal.returns-clause-changing
-returns-clause-changing c = changing_by_bits
-
-pub returns-clause-others : goal.returns-clause-others
-returns-clause-others c = others_by_facts

@@ -1,8 +1,0 @@
-use Rattle.std.proofs.Common.{◌≡◌, ◌++◌, drop}
-use Rattle.ground_conditions.specs.Bindings.{numbering_of}
-use Rattle.ground_starts.specs.Growing.{numbers_each}
-use Rattle.ground_starts.proofs.items.numbers_each.Given as goal
-
-abbrev pub invariant-loop-atom : goal.invariant-loop-atom
-invariant-loop-atom l =
-    l.numbers.items ++ numbers_each (numbering_of l.within) (drop l.atom-index l.atoms) ≡ numbers_each (numbering_of l.within) l.atoms

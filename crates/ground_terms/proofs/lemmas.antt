@@ -1,0 +1,2 @@
+pub mod terms
+pub mod sizes

@@ -1,0 +1,15 @@
+use Rattle.std.proofs.Common.{◌*◌, [], length, drop, ◌+◌, ap, ◌∙◌, arith}
+use Rattle.ppddl_model.specs.Objects.{bindings}
+use Rattle.ground_terms.specs.sizes.Counted.{counted}
+use Rattle.ground_terms.proofs.lemmas.sizes.ManyWays.{ways_more}
+use Rattle.ground_terms.proofs.sizes.variables.count_bindings.Goals as goal
+
+pub loop-variable-preserved : goal.loop-variable-preserved
+loop-variable-preserved c = record {
+  small = ap counted c.saturating_mul-count.ensures ∙ omega (arith, c.saturating_mul-count.ensures);
+  rest =
+      ap (λ k. counted (k * length (bindings c.args.table.now (drop (c.loop-variable.variable-index + 1) c.args.variables.now) []))) c.saturating_mul-count.ensures
+      ∙ ways_more c.args.table.now c.args.variables.now c.loop-variable.variable-index c.loop-variable.count c.count_objects.result
+      (counted (length (bindings c.args.table.now c.args.variables.now []))) c.variable-item.result c.loop-variable-test.true
+      c.variable-item.is c.count_objects.ensures c.loop-variable.invariant.rest;
+}

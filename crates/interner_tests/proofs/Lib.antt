@@ -1,4 +1,0 @@
-pub mod Passes
-pub mod Stepping
-pub mod Switches
-pub mod Turns

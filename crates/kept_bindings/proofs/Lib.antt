@@ -1,8 +1,0 @@
-pub mod RowSteps
-pub mod BindSteps
-pub mod Alike
-pub mod Conjoined
-pub mod Staging
-pub mod Valuing
-mod Placing
-mod Testing

@@ -1,7 +1,0 @@
-use Rattle.kept_bindings.proofs.RowSteps.{pushed}
-use Rattle.kept_bindings.proofs.rows.Rows.push.Goals as goal
-
-pub returns : goal.returns
-returns c =
-    pushed c.self.inside.width c.self.inside.count c.self.inside.numbers.items c.extend_from_slice.new.self.items c.args.row.now c.args.self.now
-    c.self.invariant c.requires c.in_ok-extend_from_slice.ensures.items c.self.view_is

@@ -1,8 +1,0 @@
-use Rattle.std.proofs.Common.{◌≡◌, drop}
-use Rattle.std.specs.List.{list_all}
-use Rattle.ppddl_model.specs.Steps.{world}
-use Rattle.kept_bindings.specs.Terms.{is_valued_first}
-use Rattle.kept_bindings.proofs.valued.are_valued_first.Given as goal
-
-abbrev pub invariant-loop-term : goal.invariant-loop-term
-invariant-loop-term l = list_all (is_valued_first (world l.facts)) (drop l.term-index l.terms) ≡ list_all (is_valued_first (world l.facts)) l.terms

@@ -1,4 +1,0 @@
-pub mod Adding
-pub mod Telling
-mod Marking
-mod RowSteps

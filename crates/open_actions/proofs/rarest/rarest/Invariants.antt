@@ -1,5 +1,0 @@
-use Rattle.std.specs.Prelude.{Contains, IfSome}
-use Rattle.open_actions.proofs.rarest.rarest.Given as goal
-
-abbrev pub invariant-loop-atom : goal.invariant-loop-atom
-invariant-loop-atom l = IfSome l.found (λ atom. Contains l.atoms atom)

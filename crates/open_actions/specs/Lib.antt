@@ -1,5 +1,0 @@
-pub mod LeftOut
-pub mod Masks
-pub mod Runs
-pub mod Index
-pub mod Codes

@@ -1,0 +1,4 @@
+pub mod sections
+pub mod domains
+pub mod problems
+pub mod tasks

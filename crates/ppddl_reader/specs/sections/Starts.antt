@@ -1,0 +1,36 @@
+-- `:init`.
+-- Source: PPDDL 1.0. What an item says of functions stands apart from what it says of atoms.
+--     put s i        an item behind the others
+--     started d s    one item more
+--     start d        ITEM*
+use Rattle.std.specs.Prelude.{[], ◌∷◌, ◌++◌, Result, Ok}
+use Rattle.ppddl_model.specs.declared.tree.InitItem.{InitItem}
+use Rattle.ppddl_model.specs.declared.tree.InitItem.TheVariants as tree
+use Rattle.ppddl_forms.specs.names.Declarations.{Declared}
+use Rattle.ppddl_cursor.specs.declared.place.Place.{Place}
+use Rattle.ppddl_cursor.specs.Forms.{Form, Forms}
+use Rattle.ppddl_cursor.specs.Reading.{Fault}
+use Rattle.ppddl_cursor.specs.Sequences.{checking, each}
+use Rattle.ppddl_forms.specs.items.Items.{item}
+use Rattle.ppddl_reader.specs.declared.sections.start.Start.{Start}
+
+abbrev pub no_items : Start
+no_items = record { items = []; values = [] }
+
+abbrev pub with_item : Start → InitItem → Start
+with_item s i = record { items = s.items ++ i ∷ []; values = s.values }
+
+abbrev pub put : Start → InitItem → Start
+put s (tree.Fact x) = with_item s (tree.Fact x)
+put s (tree.Chance branches) = with_item s (tree.Chance branches)
+put s (tree.Value v) = record { items = s.items; values = s.values ++ v ∷ [] }
+
+module _ (d : Declared) where
+  unfoldable pub started : Start → Form → Result Start Fault
+  started s = checking (λ i. Ok (put s i)) (item d s.values)
+
+  unfoldable pub start_behind : Start → Forms → Place → Result Start Fault
+  start_behind = each started
+
+abbrev pub start : Declared → Forms → Place → Result Start Fault
+start d = start_behind d no_items

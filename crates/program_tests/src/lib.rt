@@ -1,0 +1,27 @@
+//! Tests of whole runs, of requests, of reports and of the outside. Nothing stands on them.
+#![tactic(auto)]
+
+#[cfg(test)]
+mod adapters;
+#[cfg(test)]
+mod certificates;
+#[cfg(test)]
+mod effects;
+#[cfg(test)]
+mod failures;
+#[cfg(test)]
+mod limits;
+#[cfg(test)]
+mod problems;
+#[cfg(test)]
+mod reports;
+#[cfg(test)]
+mod requests;
+#[cfg(test)]
+mod runs;
+#[cfg(test)]
+mod searches;
+#[cfg(test)]
+mod servers;
+#[cfg(test)]
+mod texts;

@@ -1,9 +1,0 @@
-use Rattle.std.proofs.Common.{ap, ◌∙◌}
-use Rattle.std.specs.Cmp.Lexicographic.{texts_ties}
-use Rattle.ppddl_model.specs.State.{same_name}
-use Rattle.quantified_atoms.proofs.hiding.hides.Goals as goal
-
-pub returns : goal.returns
-returns c =
-    let v = c.args.variable.now in
-    c.eq.ensures ∙ texts_ties c.as_slice.result.now v ∙ ap (λ n. same_name n v) c.as_slice.ensures

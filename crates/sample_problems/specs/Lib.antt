@@ -1,0 +1,2 @@
+pub mod SureCoin
+pub mod Tire

@@ -1,8 +1,0 @@
-//! The bounds of one start.
-
-/// Bounds of the least expected cost from a start as they were read, in micro-units.
-#[derive(Clone, Copy)]
-pub(crate) struct Bounds {
-    pub lower: u64,
-    pub upper: u64,
-}

@@ -1,9 +1,0 @@
-use Rattle.kept_bindings.specs.Kept.{AreKept}
-use Rattle.task_atoms.proofs.Gathering.{one_more}
-use Rattle.task_atoms.proofs.kept.kept_of_actions.Goals as goal
-
-pub loop-action-preserved : goal.loop-action-preserved
-loop-action-preserved c =
-    one_more (AreKept c.args.facts.now) c.as_slice-action-items.result.now c.loop-action.kept.items c.push.new.self.items c.loop-action.action-index
-    c.action-item.result c.in_ok-kept_bindings.field-0 c.loop-action-test.true c.action-item.is c.in_ok-push.ensures.items
-    c.in_ok-kept_bindings.ensures c.loop-action.invariant

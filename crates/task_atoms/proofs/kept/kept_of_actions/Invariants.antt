@@ -1,7 +1,0 @@
-use Rattle.std.proofs.Common.{take}
-use Rattle.std.specs.List.{AllZip}
-use Rattle.kept_bindings.specs.Kept.{AreKept}
-use Rattle.task_atoms.proofs.kept.kept_of_actions.Given as goal
-
-abbrev pub invariant-loop-action : goal.invariant-loop-action
-invariant-loop-action l = AllZip (AreKept l.facts) (take l.action-index l.action-items) l.kept.items

@@ -1,7 +1,0 @@
-use Rattle.std.proofs.Common.{◌≡◌, drop}
-use Rattle.std.specs.List.{list_any}
-use Rattle.task_charges.specs.Charges.{any_decreases}
-use Rattle.task_charges.proofs.base.any_decreases.Given as goal
-
-abbrev pub invariant-loop-action : goal.invariant-loop-action
-invariant-loop-action l = list_any any_decreases (drop l.action-index l.actions) ≡ list_any any_decreases l.actions

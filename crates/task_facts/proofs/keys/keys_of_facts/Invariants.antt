@@ -1,7 +1,0 @@
-use Rattle.std.proofs.Common.{◌≡◌, [], flat_map, drop}
-use Rattle.numbered_atoms.specs.Adding.{with_names}
-use Rattle.task_facts.specs.Adding.{fact_keys}
-use Rattle.task_facts.proofs.keys.keys_of_facts.Given as goal
-
-abbrev pub invariant-loop-item : goal.invariant-loop-item
-invariant-loop-item l = with_names l.keys (flat_map fact_keys (drop l.item-index l.items)) ≡ with_names [] (flat_map fact_keys l.items)

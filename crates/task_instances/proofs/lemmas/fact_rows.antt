@@ -1,0 +1,4 @@
+pub mod Adding
+pub mod Telling
+pub mod Marking
+pub mod RowSteps

@@ -1,0 +1,2 @@
+pub mod explorer
+pub mod calls
