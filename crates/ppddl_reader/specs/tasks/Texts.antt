@@ -3,6 +3,7 @@
 --     definition_of w           what the word of a heading defines
 --     allowed s k a             a definition of this kind may stand behind what was read
 --     heading s                 `( domain NAME )`, or `( problem NAME )`, where it may stand
+--     opening s h               `( define HEADING`, read at h
 --     definition s              `( define HEADING SECTION* )`
 --     definitions_at s h        the definitions of a text, behind those of the text before it
 --     lexed n text              what lies ahead at the beginning of text number n
@@ -28,8 +29,8 @@ use Rattle.ppddl_cursor.specs.declared.place.Place.{Place}
 use Rattle.ppddl_cursor.specs.Ahead.{Ahead, same}
 use Rattle.ppddl_cursor.specs.Forms.{Form, Forms}
 use Rattle.ppddl_cursor.specs.Pieces.{text_ahead, end_of_text}
-use Rattle.ppddl_cursor.specs.Reading.{Fault, fails, all_at}
-use Rattle.ppddl_cursor.specs.Sequences.{of_word, in_group, group_with, one_then, last, giving, each}
+use Rattle.ppddl_cursor.specs.Reading.{Fault, fails, one_at, all_at}
+use Rattle.ppddl_cursor.specs.Sequences.{of_word, in_group, group_with, one_then, last, giving, each, begun}
 use Rattle.ppddl_forms.specs.declared.name.Name.{Name}
 use Rattle.ppddl_forms.specs.Sequences.{refused}
 use Rattle.ppddl_forms.specs.Words.{name}
@@ -61,6 +62,9 @@ heading_word s = of_word (λ w a. new_definition s (definition_of w) a)
 
 unfoldable pub heading : TaskDraft → Form → Result Name Fault
 heading s = in_group (one_then (heading_word s) (λ u. one_then name last))
+
+abbrev pub opening : TaskDraft → Ahead → Result (Name × Ahead) Fault
+opening s h = begun DEFINE.now h >>= one_at (heading s)
 
 -- ---- definitions
 

@@ -1,9 +1,12 @@
 //! Definitions of domains and problems, one behind the other.
+//!
+//! What a refusal gives up is large, and handed to `drop`: that call is proved once for each type. Left
+//! to the end of its scope it would be dropped field by field, and proved so in each function.
 
 ghost use Rattle.std.specs.Prelude.{◌<◌, OnOk};
 ghost use Rattle.ppddl_cursor.specs.Ahead.{size};
 ghost use Rattle.ppddl_cursor.specs.Reading.{Gives, ReadsOne, ReadsRest, rest_at, all_at};
-ghost use Rattle.ppddl_reader.specs.tasks.Texts.{heading_word, heading, body, definition, definitions};
+ghost use Rattle.ppddl_reader.specs.tasks.Texts.{heading_word, heading, opening, body, definition, definitions};
 ghost use Rattle.ppddl_reader.specs.declared.tasks.task_draft.TaskDraft.TheVariants.{Empty, OfDomain};
 
 use crate::domains::read_domain;
@@ -46,7 +49,7 @@ fn read_heading(
 }
 
 /// Reads what stands behind the heading of a domain, up to the `)` of its definition.
-#[tactic(auto, using(crate::proofs::lemmas::sections::Steps::section_steps))]
+#[tactic(auto, using(ppddl_cursor::proofs::Steps::giving_step))]
 fn read_domain_body(
     alloc: Global,
     cursor: &mut Cursor<'_>,
@@ -57,16 +60,21 @@ fn read_domain_body(
 {
     let file = name.place.file;
     let mut names = Names::make(alloc)?;
-    let domain = read_domain(alloc, cursor, name.text, &mut names)?;
-    Ok(TaskDraft::OfDomain {
-        domain,
-        file,
-        names,
-    })
+    match read_domain(alloc, cursor, name.text, &mut names) {
+        Ok(domain) => Ok(TaskDraft::OfDomain {
+            domain,
+            file,
+            names,
+        }),
+        Err(refusal) => {
+            drop(names);
+            Err(refusal)
+        }
+    }
 }
 
 /// Reads what stands behind the heading of a problem, up to the `)` of its definition.
-#[tactic(auto, using(crate::proofs::lemmas::sections::Steps::section_steps))]
+#[tactic(auto, using(ppddl_cursor::proofs::Steps::giving_step))]
 fn read_problem_body(
     alloc: Global,
     cursor: &mut Cursor<'_>,
@@ -79,12 +87,19 @@ fn read_problem_body(
         (rest_at (body (OfDomain domain domain_file names) name) cursor.old) }
     ensures fewer { OnOk result (size cursor.new < size cursor.old) }
 {
-    let problem = read_problem(alloc, cursor, name, domain.name.as_slice(), &mut names)?;
-    Ok(TaskDraft::Whole(Task {
-        domain,
-        domain_file,
-        problem,
-    }))
+    let problem = read_problem(alloc, cursor, name, domain.name.as_slice(), &mut names);
+    drop(names);
+    match problem {
+        Ok(problem) => Ok(TaskDraft::Whole(Task {
+            domain,
+            domain_file,
+            problem,
+        })),
+        Err(refusal) => {
+            drop(domain);
+            Err(refusal)
+        }
+    }
 }
 
 /// Reads what stands behind a heading, up to the `)` of its definition.
@@ -105,12 +120,29 @@ fn read_body(
             file,
             names,
         } => read_problem_body(alloc, cursor, domain, file, names, name),
-        TaskDraft::Whole(_) => Err(name.place.refusal(TextCode::Twice)),
+        TaskDraft::Whole(task) => {
+            drop(task);
+            Err(name.place.refusal(TextCode::Twice))
+        }
     }
 }
 
+/// Reads `( define HEADING`, where the heading may stand behind the definitions so far.
+#[tactic(auto, using(crate::proofs::lemmas::sections::Steps::section_steps))]
+fn open_definition(
+    alloc: Global,
+    cursor: &mut Cursor<'_>,
+    draft: &TaskDraft,
+) -> Result<Name, TextRefusal>
+    ensures gives { Gives (λ name. (name, cursor.new)) result (opening draft.now cursor.old) }
+    ensures fewer { OnOk result (size cursor.new < size cursor.old) }
+{
+    cursor.open_group(keywords::DEFINE)?;
+    read_heading(alloc, cursor, draft)
+}
+
 /// Reads `( define HEADING .. )`.
-#[tactic(auto, using(crate::proofs::lemmas::sections::Steps::section_steps), unfolding(crate::specs::tasks::Texts::definition))]
+#[tactic(auto, using(crate::proofs::lemmas::tasks::Refusals::definition_step))]
 fn read_definition(
     alloc: Global,
     cursor: &mut Cursor<'_>,
@@ -119,9 +151,13 @@ fn read_definition(
     ensures gives { ReadsOne (definition draft) cursor.old cursor.new result }
     ensures fewer { OnOk result (size cursor.new < size cursor.old) }
 {
-    cursor.open_group(keywords::DEFINE)?;
-    let name = read_heading(alloc, cursor, &draft)?;
-    read_body(alloc, cursor, draft, name)
+    match open_definition(alloc, cursor, &draft) {
+        Ok(name) => read_body(alloc, cursor, draft, name),
+        Err(refusal) => {
+            drop(draft);
+            Err(refusal)
+        }
+    }
 }
 
 /// Reads definitions up to the end of the text, behind those of the text before it.
@@ -136,6 +172,5 @@ pub(super) fn read_definitions(
     while cursor.has_form() {
         draft = read_definition(alloc, cursor, draft)?;
     }
-    cursor.end()?;
-    Ok(draft)
+    cursor.end().and(Ok(draft))
 }

@@ -63,7 +63,11 @@ impl TaskDraft {
     {
         match self {
             TaskDraft::Empty => Err(end.refusal(TextCode::NoDomain)),
-            TaskDraft::OfDomain { .. } => Err(end.refusal(TextCode::NoProblem)),
+            TaskDraft::OfDomain { domain, names, .. } => {
+                drop(domain);
+                drop(names);
+                Err(end.refusal(TextCode::NoProblem))
+            }
             TaskDraft::Whole(task) => Ok(task),
         }
     }

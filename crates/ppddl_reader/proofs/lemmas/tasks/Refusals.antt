@@ -1,11 +1,11 @@
 -- What refuses a part of a reading refuses the whole.
 --     refused_on             what goes on from it
 --     giving_refuses         what is made of it
---     definition_refuses, heading_refuses, end_refuses
+--     definition_step        a definition, by its opening
 --     lexed_refuses          a text without tokens
-use Rattle.std.proofs.Common.{◌≡◌, ℕ, List, false, Result, Ok, Err, refl, ap, ◌∙◌}
+use Rattle.std.proofs.Common.{◌≡◌, ℕ, List, Result, Err, refl, sym, ap, ◌∙◌}
 use Rattle.plain_list.specs.Results.{◌>>=◌}
-use Rattle.plain_list.proofs.Results.{bind_cong}
+use Rattle.plain_list.proofs.Results.{bind_assoc, bind_cong}
 use Rattle.ppddl_lex.specs.declared.keywords.TheConstants.{DEFINE}
 use Rattle.ppddl_lex.specs.declared.refusal.LexRefusal.{LexRefusal}
 use Rattle.ppddl_lex.specs.declared.refusal.LexRefusal.TheVariants as lex
@@ -14,13 +14,13 @@ use Rattle.ppddl_lex.specs.Lexemes.{GivesTokens}
 use Rattle.ppddl_model.specs.declared.refusal.TextRefusal.{TextRefusal}
 use Rattle.ppddl_model.specs.declared.refusal.TextRefusal.TheVariants as refusal
 use Rattle.ppddl_cursor.specs.declared.place.Place.{Place}
-use Rattle.ppddl_cursor.specs.Ahead.{Ahead, has_form}
+use Rattle.ppddl_cursor.specs.Ahead.{Ahead}
 use Rattle.ppddl_cursor.specs.Forms.{Forms}
-use Rattle.ppddl_cursor.specs.Reading.{Fault, Fails, read_to, one_at, rest_at, all_at, ends}
+use Rattle.ppddl_cursor.specs.Reading.{Fault, Fails, read_to, one_at, rest_at}
 use Rattle.ppddl_cursor.specs.Sequences.{giving, one_then, begun}
-use Rattle.ppddl_cursor.proofs.Steps.{giving_step, with_step, then_step, each_step_of_text}
+use Rattle.ppddl_cursor.proofs.Steps.{giving_step, with_step, then_step}
 use Rattle.ppddl_reader.specs.declared.tasks.task_draft.TaskDraft.{TaskDraft}
-use Rattle.ppddl_reader.specs.tasks.Texts.{heading, body, definition, definitions, lex_refusal, lexed_so}
+use Rattle.ppddl_reader.specs.tasks.Texts.{heading, opening, body, definition, lex_refusal, lexed_so}
 
 pub refused_on : {A B : Type 0} (e : TextRefusal) (r : Result A Fault) (on : A → Result B Fault) → Fails e r → Fails e (r >>= on)
 refused_on refusal.Memory r on refuses = tt
@@ -29,24 +29,12 @@ refused_on (refusal.At code file line) r on refuses = rw refuses refl
 pub giving_refuses : {A B : Type 0} (make : A → B) (read : Forms → Place → Result A Fault) (e : TextRefusal) (h : Ahead) → Fails e (rest_at read h) → Fails e (rest_at (giving make read) h)
 giving_refuses make read e h refuses = rw (giving_step make read h) (refused_on e (rest_at read h) (λ y. read_to (make y.0) y.1) refuses)
 
-module _ (s : TaskDraft) where
-  pub definition_step : (h : Ahead) → one_at (definition s) h ≡ (begun DEFINE.now h >>= λ k. one_at (heading s) k >>= λ y. rest_at (body s y.0) y.1)
-  unfolding definition
-  definition_step h =
-      with_step DEFINE.now (one_then (heading s) (body s)) h
-      ∙ bind_cong (begun DEFINE.now h) (λ k. rest_at (one_then (heading s) (body s)) k) (λ k. one_at (heading s) k >>= λ y. rest_at (body s y.0) y.1) (λ k. then_step (heading s) (body s) k)
-
-  pub definition_refuses : (e : TextRefusal) (h : Ahead) → Fails e (begun DEFINE.now h) → Fails e (one_at (definition s) h)
-  definition_refuses e h refuses =
-      rw (definition_step h) (refused_on e (begun DEFINE.now h) (λ k. one_at (heading s) k >>= λ y. rest_at (body s y.0) y.1) refuses)
-
-  pub heading_refuses : (e : TextRefusal) (h k : Ahead) → begun DEFINE.now h ≡ Ok k → Fails e (one_at (heading s) k) → Fails e (one_at (definition s) h)
-  heading_refuses e h k opened refuses =
-      rw (definition_step h, opened) (refused_on e (one_at (heading s) k) (λ y. rest_at (body s y.0) y.1) refuses)
-
-  pub end_refuses : (e : TextRefusal) (h : Ahead) → has_form h ≡ false → Fails e (all_at ends h) → Fails e (all_at (definitions s) h)
-  unfolding definitions
-  end_refuses e h ended refuses = rw (each_step_of_text definition s h, ended) (refused_on e (all_at ends h) (λ u. Ok s) refuses)
+pub definition_step : (s : TaskDraft) (h : Ahead) → one_at (definition s) h ≡ (opening s h >>= λ y. rest_at (body s y.0) y.1)
+unfolding definition
+definition_step s h =
+    with_step DEFINE.now (one_then (heading s) (body s)) h
+    ∙ bind_cong (begun DEFINE.now h) (λ k. rest_at (one_then (heading s) (body s)) k) (λ k. one_at (heading s) k >>= λ y. rest_at (body s y.0) y.1) (λ k. then_step (heading s) (body s) k)
+    ∙ sym (bind_assoc (begun DEFINE.now h) (λ k. one_at (heading s) k) (λ y. rest_at (body s y.0) y.1))
 
 pub lexed_refuses : (text : List ℕ) (n : ℕ) (e : LexRefusal) (ts : Result (List Token) LexRefusal) → GivesTokens (Err e) ts → Fails (lex_refusal n e) (lexed_so text n ts)
 lexed_refuses text n lex.Memory ts given = tt
