@@ -21,4 +21,4 @@ coin_has_lists = record {
 }
 
 pub serve-requires-clause-names : goal.serve-requires-clause-names
-serve-requires-clause-names g c = subst HasNameLists (sym c.in_ok-problem.ensures) coin_has_lists
+serve-requires-clause-names g c κs = subst HasNameLists (sym c.in_ok-problem.ensures) coin_has_lists
