@@ -1,9 +1,11 @@
 //! The ground problem of a task.
 
-ghost use Rattle.std.specs.Prelude.{IfOk};
+ghost use Rattle.std.specs.Prelude.{◌≡◌, IfOk};
+ghost use Rattle.ppddl_model.specs.Steps.{base_cost};
 ghost use Rattle.ppddl_model.specs.WellFormed.{IsWellFormed};
 ghost use Rattle.ground_meaning.specs.refusals.Laws.{AreInRange};
 ghost use Rattle.ground_meaning.specs.refusals.Limits.{grounded};
+ghost use Rattle.grounder.specs.costs.Charges.{step_charges};
 ghost use Rattle.grounder.specs.Answers.{terms_of, Answers, StandsFor};
 
 use crate::charging::charge;
@@ -18,6 +20,32 @@ use ppddl_model::Task;
 use std::alloc::Global;
 use task_instances::TaskFacts;
 
+/// The ground problem of the facts of a well-formed task, where each step costs at least `base`.
+fn ground_facts(
+    alloc: Global,
+    facts: &TaskFacts<'_>,
+    terms: &Terms,
+    base: u64,
+) -> Result<GroundProblem, GroundRefusal>
+    requires well_formed { IsWellFormed facts.now }
+    requires in_range { AreInRange (terms_of terms.now) }
+    requires base { base ≡ base_cost facts.now (step_charges terms.now.step_cost) }
+    ensures exact { Answers result (grounded facts.now (terms_of terms.now)) }
+    ensures stands { IfOk result (λ g. StandsFor g facts.now (terms_of terms.now)) }
+{
+    grounding_laws();
+    let penalty = charge(alloc, facts, terms, base)?;
+    let parts = parts_within(alloc, facts, base)?;
+    let Parts {
+        atoms,
+        ends,
+        actions,
+    } = parts;
+    let Ends { goal, starts } = ends;
+    let InitialStates { list, den } = starts;
+    Ok(GroundProblem::new(atoms, penalty, list, den, goal, actions))
+}
+
 /// The ground problem of a well-formed task, for a penalty and a step cost in range. Refused is, in this
 /// order, an action that may cost nothing, a task with neither a penalty nor a goal reward, and the first
 /// quantity that is above its limit: objects; instances that are tried; for each action its denominator and
@@ -30,18 +58,10 @@ pub fn ground(alloc: Global, task: &Task, terms: &Terms) -> Result<GroundProblem
     ensures exact { Answers result (grounded task.now (terms_of terms.now)) }
     ensures stands { IfOk result (λ g. StandsFor g task.now (terms_of terms.now)) }
 {
-    grounding_laws();
     let base = base_cost(task, terms.step_cost);
     early(alloc, task, terms, base)?;
     let facts = TaskFacts::make(alloc, task)?;
-    let penalty = charge(alloc, &facts, terms, base)?;
-    let parts = parts_within(alloc, &facts, base)?;
-    let Parts {
-        atoms,
-        ends,
-        actions,
-    } = parts;
-    let Ends { goal, starts } = ends;
-    let InitialStates { list, den } = starts;
-    Ok(GroundProblem::new(atoms, penalty, list, den, goal, actions))
+    let problem = ground_facts(alloc, &facts, terms, base);
+    drop(facts);
+    problem
 }

@@ -1,20 +1,23 @@
 //! The parts of the ground problem of a task, within the limits.
 
 ghost use Rattle.std.specs.Prelude.{◌≡◌, Ok, length};
+ghost use Rattle.std.specs.List.{AllZip};
 ghost use Rattle.ppddl_model.specs.Steps.{Charges, base_cost};
 ghost use Rattle.ppddl_model.specs.WellFormed.{IsWellFormed};
 ghost use Rattle.ground_meaning.specs.refusals.Atoms.{numbering_of};
 ghost use Rattle.ground_meaning.specs.refusals.Limits.{limits};
+ghost use Rattle.task_instances.specs.kept_rows.Kept.{AreKept};
 ghost use Rattle.grounder.specs.limits.Early.{early_limits};
 ghost use Rattle.grounder.specs.limits.Laws.{later_limits};
 ghost use Rattle.grounder.specs.actions.Answers.{IsBindingOf};
 ghost use Rattle.grounder.specs.Limited.{Limited, ended};
+ghost use Rattle.grounder.specs.Named.{AreNamesOf};
 ghost use Rattle.grounder.specs.Parts.{IsEndOf, ArePartsOf};
 
 use crate::changing_atoms::{changing_texts, kept_of_actions};
 use crate::depth::is_deep;
 use crate::limits::{early_limits, limit_laws};
-use crate::names::names_of;
+use crate::names::{Names, names_of};
 use crate::outset::first_fits;
 use crate::sizing::sized_actions;
 use crate::starts::{InitialStates, ground_starts};
@@ -24,7 +27,7 @@ use ground_terms::Scope;
 use outcome_dist::{Binding, ground_condition};
 use plain_list::Text;
 use std::alloc::Global;
-use task_instances::TaskFacts;
+use task_instances::{Rows, TaskFacts};
 
 /// The goal and the initial states of a ground problem.
 #[derive(Drop)]
@@ -66,6 +69,69 @@ fn ends_within(
     Ok(Ends { goal, starts })
 }
 
+/// The parts of the ground problem, where its atoms, its facts and the values of functions are known by name.
+fn named_parts(
+    alloc: Global,
+    facts: &TaskFacts<'_>,
+    names: &Names<'_>,
+    kept: &[Rows],
+    atoms: List<Text>,
+    base: u64,
+    tested: u64,
+) -> Result<Parts, GroundRefusal>
+    requires well_formed { IsWellFormed facts.now }
+    requires names { AreNamesOf facts.now names.now }
+    requires kept { AllZip (AreKept facts.now) facts.now.domain.actions kept.now }
+    requires atoms { atoms ≡ (numbering_of facts.now).atoms }
+    requires tested { early_limits facts.now ≡ Ok tested }
+    ensures exact { (charges : Charges) → base_cost facts.now charges ≡ base
+        → Limited (ArePartsOf facts.now charges) result (later_limits facts.now charges tested) }
+{
+    let within = Binding {
+        table: facts.table(),
+        values: &names.values,
+        atoms: &names.atoms,
+        facts: &names.facts,
+        scope: &Scope::Empty,
+    };
+    let actions = sized_actions(alloc, facts, &within, kept, base, tested)?;
+    match ends_within(alloc, facts, &within, atoms.as_slice().len()) {
+        Ok(ends) => Ok(Parts {
+            atoms,
+            ends,
+            actions,
+        }),
+        Err(refusal) => {
+            drop(actions);
+            Err(refusal)
+        }
+    }
+}
+
+/// The parts of the ground problem, where the kept instances and the size of the tried preconditions are known.
+fn kept_parts(
+    alloc: Global,
+    facts: &TaskFacts<'_>,
+    kept: &[Rows],
+    base: u64,
+    tested: u64,
+) -> Result<Parts, GroundRefusal>
+    requires well_formed { IsWellFormed facts.now }
+    requires kept { AllZip (AreKept facts.now) facts.now.domain.actions kept.now }
+    requires tested { early_limits facts.now ≡ Ok tested }
+    ensures exact { (charges : Charges) → base_cost facts.now charges ≡ base
+        → Limited (ArePartsOf facts.now charges) result (later_limits facts.now charges tested) }
+{
+    if !first_fits(facts, kept, tested) {
+        return Err(GroundRefusal::Limit(LimitCode::GroundSize));
+    }
+    let atoms = changing_texts(alloc, facts, kept)?;
+    let names = names_of(alloc, facts, atoms.as_slice())?;
+    let parts = named_parts(alloc, facts, &names, kept, atoms, base, tested);
+    drop(names);
+    parts
+}
+
 /// The parts of the ground problem, where the size of the tried preconditions is known.
 fn later_parts(
     alloc: Global,
@@ -82,25 +148,9 @@ fn later_parts(
         return Err(GroundRefusal::Memory);
     }
     let kept = kept_of_actions(alloc, facts)?;
-    if !first_fits(facts, kept.as_slice(), tested) {
-        return Err(GroundRefusal::Limit(LimitCode::GroundSize));
-    }
-    let atoms = changing_texts(alloc, facts, kept.as_slice())?;
-    let names = names_of(alloc, facts, atoms.as_slice())?;
-    let within = Binding {
-        table: facts.table(),
-        values: &names.values,
-        atoms: &names.atoms,
-        facts: &names.facts,
-        scope: &Scope::Empty,
-    };
-    let actions = sized_actions(alloc, facts, &within, kept.as_slice(), base, tested)?;
-    let ends = ends_within(alloc, facts, &within, atoms.as_slice().len())?;
-    Ok(Parts {
-        atoms,
-        ends,
-        actions,
-    })
+    let parts = kept_parts(alloc, facts, kept.as_slice(), base, tested);
+    drop(kept);
+    parts
 }
 
 /// The parts of the ground problem of a task in which each step costs this much at least, where the task
