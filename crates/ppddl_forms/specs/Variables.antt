@@ -4,6 +4,8 @@
 --     types_of d          `NAME` or `( either NAME+ )`
 --     Listed              variables as they are read, and the types of the first of them
 --     variables d         groups `VARIABLE+ - TYPES`, and then VARIABLE*
+--     variables_behind d names kinds
+--                         the same behind variables that were read, and the types of the first of them
 --     variable_list d     `( VARIABLES )`
 use Rattle.std.specs.Prelude.{ℕ, ◌-◌, List, [], ◌∷◌, ◌++◌, map, length, replicate, Bool, true, false, ◌==◌, if◌then◌else◌, Result, Ok}
 use Rattle.std.specs.List.{list_any, zip}
@@ -91,6 +93,10 @@ params_of names kinds = map (λ p. record { name = p.0; kinds = p.1 }) (zip name
 -- variables without types are objects
 abbrev pub all_listed : Listed → Place → Result (List Param) Fault
 all_listed s b = if s.is_typing then fails Expected b else Ok (params_of s.names (all_typed s (OBJECT.now ∷ [])))
+
+-- behind these names, the first of which have these types
+abbrev pub variables_behind : Declared → List (List ℕ) → List (List (List ℕ)) → Forms → Place → Result (List Param) Fault
+variables_behind d names kinds = each_to (listed d) all_listed (record { names = names; kinds = kinds; is_typing = false })
 
 unfoldable pub variables : Declared → Forms → Place → Result (List Param) Fault
 variables d = each_to (listed d) all_listed none_listed

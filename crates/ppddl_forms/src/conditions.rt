@@ -1,6 +1,6 @@
 //! Conditions.
 
-ghost use Rattle.std.specs.Prelude.{◌≡◌, ◌<◌, OnOk};
+ghost use Rattle.std.specs.Prelude.{◌≡◌, ◌<◌, ◌∷◌, OnOk};
 ghost use Rattle.ppddl_cursor.specs.Ahead.{size};
 ghost use Rattle.ppddl_cursor.specs.Reading.{ReadsOne, ReadsRest};
 ghost use Rattle.ppddl_forms.specs.Conditions.{condition, condition_in, negation, conditions};
@@ -75,13 +75,11 @@ fn read_condition_in(
         }
         ConditionHead::And => {
             cursor.advance();
-            let parts = read_conditions(alloc, cursor, names, scope)?;
-            Ok(Condition::All(parts))
+            read_conditions(alloc, cursor, names, scope).map(Condition::All)
         }
         ConditionHead::Or => {
             cursor.advance();
-            let parts = read_conditions(alloc, cursor, names, scope)?;
-            Ok(Condition::Any(parts))
+            read_conditions(alloc, cursor, names, scope).map(Condition::Any)
         }
         ConditionHead::Imply => {
             cursor.advance();
@@ -89,13 +87,13 @@ fn read_condition_in(
         }
         ConditionHead::Exists => {
             cursor.advance();
-            let (params, inner) = read_quantified(alloc, cursor, names, scope)?;
-            Ok(Condition::Exists(params, Boxed::new(alloc, inner)?))
+            let quantified = read_quantified(alloc, cursor, names, scope);
+            quantified.map(|(params, inner)| Condition::Exists(params, inner))
         }
         ConditionHead::Forall => {
             cursor.advance();
-            let (params, inner) = read_quantified(alloc, cursor, names, scope)?;
-            Ok(Condition::Forall(params, Boxed::new(alloc, inner)?))
+            let quantified = read_quantified(alloc, cursor, names, scope);
+            quantified.map(|(params, inner)| Condition::Forall(params, inner))
         }
         ConditionHead::Equal => {
             cursor.advance();
@@ -103,10 +101,26 @@ fn read_condition_in(
         }
         ConditionHead::Comparison => Err(cursor.refusal(TextCode::Unsupported)),
         ConditionHead::Predicate => {
-            let atom = read_atom_in(alloc, cursor, names, scope)?;
-            Ok(Condition::Atom(atom))
+            read_atom_in(alloc, cursor, names, scope).map(Condition::Atom)
         }
     }
+}
+
+/// Reads a condition, in a box of its own.
+#[cycle(condition)]
+#[tactic(auto, using(crate::proofs::ConditionSteps::condition_steps))]
+fn read_boxed_condition(
+    alloc: Global,
+    cursor: &mut Cursor<'_>,
+    names: &Names,
+    scope: &mut Scope,
+) -> Result<Boxed<Condition>, TextRefusal>
+    ensures gives { ReadsOne (condition names.now scope.old) cursor.old cursor.new result }
+    ensures fewer { OnOk result (size cursor.new < size cursor.old) }
+    ensures scope { scope.new ≡ scope.old }
+{
+    let condition = read_condition(alloc, cursor, names, scope)?;
+    Ok(Boxed::new(alloc, condition)?)
 }
 
 /// Reads `CONDITION )` behind `not`.
@@ -122,9 +136,8 @@ fn read_negation(
     ensures fewer { OnOk result (size cursor.new < size cursor.old) }
     ensures scope { scope.new ≡ scope.old }
 {
-    let inner = read_condition(alloc, cursor, names, scope)?;
-    cursor.close()?;
-    Ok(Condition::Not(Boxed::new(alloc, inner)?))
+    let inner = read_boxed_condition(alloc, cursor, names, scope)?;
+    cursor.close().and(Ok(Condition::Not(inner)))
 }
 
 /// Reads `CONDITION CONDITION )` behind `imply`.
@@ -140,12 +153,37 @@ fn read_implication(
     ensures fewer { OnOk result (size cursor.new < size cursor.old) }
     ensures scope { scope.new ≡ scope.old }
 {
-    let premise = read_condition(alloc, cursor, names, scope)?;
-    let conclusion = read_condition(alloc, cursor, names, scope)?;
-    cursor.close()?;
-    let premise = Boxed::new(alloc, premise)?;
-    let conclusion = Boxed::new(alloc, conclusion)?;
-    Ok(Condition::Imply(premise, conclusion))
+    let premise = read_boxed_condition(alloc, cursor, names, scope)?;
+    match read_boxed_condition(alloc, cursor, names, scope) {
+        Ok(conclusion) => cursor
+            .close()
+            .and(Ok(Condition::Imply(premise, conclusion))),
+        Err(refusal) => {
+            drop(premise);
+            Err(refusal)
+        }
+    }
+}
+
+/// Reads a condition with these variables in sight as well, in a box of its own.
+#[cycle(condition)]
+#[tactic(auto, using(crate::proofs::ConditionSteps::condition_steps))]
+fn read_condition_under(
+    alloc: Global,
+    cursor: &mut Cursor<'_>,
+    names: &Names,
+    scope: &mut Scope,
+    params: &[Param],
+) -> Result<Boxed<Condition>, TextRefusal>
+    ensures gives { ReadsOne (condition names.now (params.now ∷ scope.old))
+        cursor.old cursor.new result }
+    ensures fewer { OnOk result (size cursor.new < size cursor.old) }
+    ensures scope { scope.new ≡ scope.old }
+{
+    scope.enter(params)?;
+    let inner = read_boxed_condition(alloc, cursor, names, scope);
+    scope.leave();
+    inner
 }
 
 /// Reads `( VARIABLES ) CONDITION )` behind a quantifier.
@@ -156,18 +194,19 @@ fn read_quantified(
     cursor: &mut Cursor<'_>,
     names: &Names,
     scope: &mut Scope,
-) -> Result<(List<Param>, Condition), TextRefusal>
+) -> Result<(List<Param>, Boxed<Condition>), TextRefusal>
     ensures gives { ReadsRest (quantified names.now scope.old) cursor.old cursor.new result }
     ensures fewer { OnOk result (size cursor.new < size cursor.old) }
     ensures scope { scope.new ≡ scope.old }
 {
     let params = read_variable_list(alloc, cursor, names)?;
-    scope.enter(params.as_slice())?;
-    let inner = read_condition(alloc, cursor, names, scope);
-    scope.leave();
-    let inner = inner?;
-    cursor.close()?;
-    Ok((params, inner))
+    match read_condition_under(alloc, cursor, names, scope, params.as_slice()) {
+        Ok(inner) => cursor.close().and(Ok((params, inner))),
+        Err(refusal) => {
+            drop(params);
+            Err(refusal)
+        }
+    }
 }
 
 /// Reads conditions up to the end of the group, and its `)`.

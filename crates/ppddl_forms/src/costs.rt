@@ -186,6 +186,5 @@ pub(crate) fn read_cost(
 {
     read_reward(cursor)?;
     let value = read_cost_value(alloc, cursor, names, scope)?;
-    cursor.close()?;
-    Ok(value)
+    cursor.close().and(Ok(value))
 }

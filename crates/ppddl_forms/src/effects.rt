@@ -1,10 +1,10 @@
 //! Effects.
 
-ghost use Rattle.std.specs.Prelude.{◌≡◌, ◌<◌, [], OnOk};
+ghost use Rattle.std.specs.Prelude.{◌≡◌, ◌<◌, [], ◌∷◌, OnOk};
 ghost use Rattle.ppddl_cursor.specs.Ahead.{size};
-ghost use Rattle.ppddl_cursor.specs.Reading.{ReadsOne, ReadsRest};
+ghost use Rattle.ppddl_cursor.specs.Reading.{Gives, ReadsOne, ReadsRest, rest_at};
 ghost use Rattle.ppddl_forms.specs.Effects.{deletion, effect, effect_in, effects};
-ghost use Rattle.ppddl_forms.specs.Effects.{for_all, conditional, branches};
+ghost use Rattle.ppddl_forms.specs.Effects.{for_all, conditional, chances_of, branches};
 
 use crate::chances::{Chances, read_chance};
 use crate::conditions::read_condition;
@@ -14,7 +14,7 @@ use crate::names::{Names, Scope};
 use crate::terms::{read_atom, read_atom_in};
 use crate::variables::read_variable_list;
 use ppddl_cursor::Cursor;
-use ppddl_model::{Boxed, Branch, Effect, List, TextCode, TextRefusal};
+use ppddl_model::{Boxed, Branch, Effect, List, Param, TextCode, TextRefusal};
 use std::alloc::Global;
 
 /// Reads `ATOM )` behind `not`.
@@ -29,8 +29,7 @@ fn read_deletion(
     ensures fewer { OnOk result (size cursor.new < size cursor.old) }
 {
     let atom = read_atom(alloc, cursor, names, scope)?;
-    cursor.close()?;
-    Ok(Effect::Delete(atom))
+    cursor.close().and(Ok(Effect::Delete(atom)))
 }
 
 /// Reads an effect on the names that are declared and the variables in sight.
@@ -77,8 +76,7 @@ fn read_effect_in(
         }
         EffectHead::And => {
             cursor.advance();
-            let parts = read_effects(alloc, cursor, names, scope)?;
-            Ok(Effect::Both(parts))
+            read_effects(alloc, cursor, names, scope).map(Effect::Both)
         }
         EffectHead::Forall => {
             cursor.advance();
@@ -90,18 +88,14 @@ fn read_effect_in(
         }
         EffectHead::Probabilistic => {
             cursor.advance();
-            let branches = read_branches(alloc, cursor, names, scope)?;
-            Ok(Effect::Chance(branches))
+            read_branches(alloc, cursor, names, scope).map(Effect::Chance)
         }
         EffectHead::Decrease => {
             cursor.advance();
             read_cost(alloc, cursor, names, scope)
         }
         EffectHead::Unsupported => Err(cursor.refusal(TextCode::Unsupported)),
-        EffectHead::Predicate => {
-            let atom = read_atom_in(alloc, cursor, names, scope)?;
-            Ok(Effect::Add(atom))
-        }
+        EffectHead::Predicate => read_atom_in(alloc, cursor, names, scope).map(Effect::Add),
     }
 }
 
@@ -127,6 +121,44 @@ fn read_effects(
     Ok(List::from_vec(parts))
 }
 
+/// Reads an effect, in a box of its own.
+#[cycle(effect)]
+#[tactic(auto, using(crate::proofs::EffectSteps::effect_steps))]
+fn read_boxed_effect(
+    alloc: Global,
+    cursor: &mut Cursor<'_>,
+    names: &Names,
+    scope: &mut Scope,
+) -> Result<Boxed<Effect>, TextRefusal>
+    ensures gives { ReadsOne (effect names.now scope.old) cursor.old cursor.new result }
+    ensures fewer { OnOk result (size cursor.new < size cursor.old) }
+    ensures scope { scope.new ≡ scope.old }
+{
+    let effect = read_effect(alloc, cursor, names, scope)?;
+    Ok(Boxed::new(alloc, effect)?)
+}
+
+/// Reads an effect with these variables in sight as well, in a box of its own.
+#[cycle(effect)]
+#[tactic(auto, using(crate::proofs::EffectSteps::effect_steps))]
+fn read_effect_under(
+    alloc: Global,
+    cursor: &mut Cursor<'_>,
+    names: &Names,
+    scope: &mut Scope,
+    params: &[Param],
+) -> Result<Boxed<Effect>, TextRefusal>
+    ensures gives { ReadsOne (effect names.now (params.now ∷ scope.old))
+        cursor.old cursor.new result }
+    ensures fewer { OnOk result (size cursor.new < size cursor.old) }
+    ensures scope { scope.new ≡ scope.old }
+{
+    scope.enter(params)?;
+    let inner = read_boxed_effect(alloc, cursor, names, scope);
+    scope.leave();
+    inner
+}
+
 /// Reads `( VARIABLES ) EFFECT )` behind `forall`.
 #[cycle(effect)]
 #[tactic(auto, using(crate::proofs::EffectSteps::effect_steps))]
@@ -141,12 +173,13 @@ fn read_for_all(
     ensures scope { scope.new ≡ scope.old }
 {
     let params = read_variable_list(alloc, cursor, names)?;
-    scope.enter(params.as_slice())?;
-    let inner = read_effect(alloc, cursor, names, scope);
-    scope.leave();
-    let inner = inner?;
-    cursor.close()?;
-    Ok(Effect::Forall(params, Boxed::new(alloc, inner)?))
+    match read_effect_under(alloc, cursor, names, scope, params.as_slice()) {
+        Ok(inner) => cursor.close().and(Ok(Effect::Forall(params, inner))),
+        Err(refusal) => {
+            drop(params);
+            Err(refusal)
+        }
+    }
 }
 
 /// Reads `CONDITION EFFECT )` behind `when`.
@@ -163,9 +196,39 @@ fn read_conditional(
     ensures scope { scope.new ≡ scope.old }
 {
     let condition = read_condition(alloc, cursor, names, scope)?;
-    let inner = read_effect(alloc, cursor, names, scope)?;
-    cursor.close()?;
-    Ok(Effect::When(condition, Boxed::new(alloc, inner)?))
+    match read_boxed_effect(alloc, cursor, names, scope) {
+        Ok(inner) => cursor.close().and(Ok(Effect::When(condition, inner))),
+        Err(refusal) => {
+            drop(condition);
+            Err(refusal)
+        }
+    }
+}
+
+/// Reads probabilities, each with its effect, up to the end of the group, and its `)`, and puts the
+/// branches behind those seen, which have these chances.
+#[cycle(effect)]
+#[tactic(auto, using(crate::proofs::EffectSteps::effect_steps))]
+fn read_more_branches(
+    alloc: Global,
+    cursor: &mut Cursor<'_>,
+    names: &Names,
+    scope: &mut Scope,
+    chances: &mut Chances,
+    seen: &mut Vec<Branch>,
+) -> Result<(), TextRefusal>
+    requires { chances.old ≡ chances_of seen.old.items }
+    ensures gives { Gives (λ _. (seen.new.items, cursor.new)) result
+        (rest_at (branches names.now scope.old seen.old.items) cursor.old) }
+    ensures fewer { OnOk result (size cursor.new < size cursor.old) }
+    ensures scope { scope.new ≡ scope.old }
+{
+    while cursor.has_form() {
+        let chance = read_chance(cursor, chances)?;
+        let effect = read_effect(alloc, cursor, names, scope)?;
+        seen.push(Branch { chance, effect })?;
+    }
+    cursor.close()
 }
 
 /// Reads probabilities, each with its effect, up to the end of the group, and its `)`.
@@ -183,11 +246,13 @@ fn read_branches(
 {
     let mut chances = Chances::new(alloc);
     let mut branches = Vec::new(alloc);
-    while cursor.has_form() {
-        let chance = read_chance(cursor, &mut chances)?;
-        let effect = read_effect(alloc, cursor, names, scope)?;
-        branches.push(Branch { chance, effect })?;
+    let read = read_more_branches(alloc, cursor, names, scope, &mut chances, &mut branches);
+    drop(chances);
+    match read {
+        Ok(()) => Ok(List::from_vec(branches)),
+        Err(refusal) => {
+            drop(branches);
+            Err(refusal)
+        }
     }
-    cursor.close()?;
-    Ok(List::from_vec(branches))
 }

@@ -4,9 +4,13 @@ mod branches;
 mod init_head;
 mod values;
 
-ghost use Rattle.std.specs.Prelude.{◌<◌, OnOk};
+ghost use Rattle.std.specs.Prelude.{◌<◌, [], OnOk};
+ghost use Rattle.ppddl_model.specs.declared.limits.TheConstants.{MOST_COST};
 ghost use Rattle.ppddl_cursor.specs.Ahead.{size};
 ghost use Rattle.ppddl_cursor.specs.Reading.{Gives, ReadsOne, ReadsRest};
+ghost use Rattle.ppddl_cursor.specs.Sequences.{checking};
+ghost use Rattle.ppddl_forms.specs.Costs.{function_term};
+ghost use Rattle.ppddl_forms.specs.Words.{amount};
 ghost use Rattle.ppddl_forms.specs.items.Items.{negative, new_value, value, item_in, item};
 
 use crate::items::branches::{read_branches, read_fact, read_fact_in};
@@ -43,6 +47,38 @@ fn new_value(values: &Values, function: &Atom, place: Place, value: u64) -> Resu
     }
 }
 
+/// Reads a function with its objects, with the place of its name.
+#[tactic(auto, using(crate::proofs::lemmas::items::Steps::item_steps))]
+fn read_ground_function(
+    alloc: Global,
+    cursor: &mut Cursor<'_>,
+    names: &Names,
+) -> Result<(Atom, Place), TextRefusal>
+    ensures gives { ReadsOne (function_term names.now []) cursor.old cursor.new result }
+    ensures fewer { OnOk result (size cursor.new < size cursor.old) }
+{
+    let scope = Scope::make(alloc)?;
+    let function = read_function_term(alloc, cursor, names, &scope);
+    drop(scope);
+    function
+}
+
+/// Reads the value of a function whose name stands at `place`, where it was given no other one.
+#[tactic(auto, using(crate::proofs::lemmas::items::Steps::item_steps))]
+fn read_new_value(
+    cursor: &mut Cursor<'_>,
+    values: &Values,
+    function: &Atom,
+    place: Place,
+) -> Result<u64, TextRefusal>
+    ensures gives { ReadsOne (checking (new_value values.now (function.now, place))
+        (amount 0 MOST_COST)) cursor.old cursor.new result }
+    ensures fewer { OnOk result (size cursor.new < size cursor.old) }
+{
+    let amount = read_amount(cursor, 0, MOST_COST)?;
+    new_value(values, function, place, amount)
+}
+
 /// Reads `FUNCTION AMOUNT )` behind `=`.
 #[tactic(auto, using(crate::proofs::lemmas::items::Steps::item_steps), unfolding(crate::specs::items::Items::value))]
 fn read_value(
@@ -54,12 +90,16 @@ fn read_value(
     ensures gives { ReadsRest (value names.now values.now) cursor.old cursor.new result }
     ensures fewer { OnOk result (size cursor.new < size cursor.old) }
 {
-    let scope = Scope::make(alloc)?;
-    let (function, place) = read_function_term(alloc, cursor, names, &scope)?;
-    let amount = read_amount(cursor, 0, MOST_COST)?;
-    let value = new_value(values, &function, place, amount)?;
-    cursor.close()?;
-    Ok(InitItem::Value(ValueItem { function, value }))
+    let (function, place) = read_ground_function(alloc, cursor, names)?;
+    match read_new_value(cursor, values, &function, place) {
+        Ok(value) => cursor
+            .close()
+            .and(Ok(InitItem::Value(ValueItem { function, value }))),
+        Err(refusal) => {
+            drop(function);
+            Err(refusal)
+        }
+    }
 }
 
 /// Reads what stands in a group that is an item, and its `)`.
@@ -80,18 +120,14 @@ fn read_item_in(
         }
         InitHead::Probabilistic => {
             cursor.advance();
-            let branches = read_branches(alloc, cursor, names)?;
-            Ok(InitItem::Chance(branches))
+            read_branches(alloc, cursor, names).map(InitItem::Chance)
         }
         InitHead::Value => {
             cursor.advance();
             read_value(alloc, cursor, names, values)
         }
         InitHead::Unsupported => Err(cursor.refusal(TextCode::Unsupported)),
-        InitHead::Predicate => {
-            let atom = read_fact_in(alloc, cursor, names)?;
-            Ok(InitItem::Fact(atom))
-        }
+        InitHead::Predicate => read_fact_in(alloc, cursor, names).map(InitItem::Fact),
     }
 }
 

@@ -27,7 +27,7 @@ use ppddl_model::{List, ObjectDecl, Param, PredicateDecl, Text, TypeDecl};
 pub use scope::Scope;
 use std::alloc::{AllocError, Global};
 use std::marker::Model;
-use std::slice;
+use std::{mem, slice};
 use type_table::TypeRefusal;
 
 /// What texts have declared so far: types, objects with their types, predicates and functions.
@@ -77,7 +77,8 @@ impl Names {
         ensures acyclic { OnOk result (has_cycle self.new.types ≡ false) }
         ensures cycle { IsErrOf result Cycle → has_cycle (self.old.types ++ types.now) ≡ true }
     {
-        self.types = self.types.with(types)?;
+        let types = self.types.with(types)?;
+        drop(mem::replace(&mut self.types, types));
         Ok(())
     }
 

@@ -172,6 +172,11 @@ pub fn read_objects(
     ensures fewer { OnOk result (size cursor.new < size cursor.old) }
 {
     let mut typed = TypedObjects::make(alloc)?;
-    read_typed_objects(alloc, cursor, names, &mut typed)?;
-    Ok(typed.into_list())
+    match read_typed_objects(alloc, cursor, names, &mut typed) {
+        Ok(()) => Ok(typed.into_list()),
+        Err(refusal) => {
+            drop(typed);
+            Err(refusal)
+        }
+    }
 }

@@ -2,11 +2,12 @@
 
 ghost use Rattle.std.specs.Prelude.{◌≡◌, ◌<◌, ◌≤◌, ◌-◌, ◌++◌, [], ◌∷◌, length, replicate, true, IfOk, OnOk};
 ghost use Rattle.ppddl_cursor.specs.Ahead.{size, is_word};
-ghost use Rattle.ppddl_cursor.specs.Reading.{Gives, ReadsOne, ReadsRest, one_at};
+ghost use Rattle.ppddl_cursor.specs.Reading.{Gives, ReadsOne, ReadsRest, one_at, rest_at};
 ghost use Rattle.ppddl_cursor.specs.Sequences.{adding};
+ghost use Rattle.ppddl_forms.specs.declared.symbols.TheConstants.{OBJECT};
 ghost use Rattle.ppddl_forms.specs.Variables.{type_name, type_names, either_type, one_type};
 ghost use Rattle.ppddl_forms.specs.Variables.{types_of, types_at, other_variable};
-ghost use Rattle.ppddl_forms.specs.Variables.{params_of, variables, variable_list};
+ghost use Rattle.ppddl_forms.specs.Variables.{params_of, variables, variables_behind, variable_list};
 
 use crate::names::Names;
 use crate::symbols::{DASH, OBJECT};
@@ -16,6 +17,7 @@ use ppddl_cursor::{Cursor, TokenKind};
 use ppddl_lex::keywords;
 use ppddl_model::{List, Param, Text, TextCode, TextRefusal};
 use std::alloc::{AllocError, Global};
+use std::slice;
 
 /// Reads the name of a type.
 #[tactic(auto, using(crate::proofs::Steps::form_steps), unfolding(crate::specs::Variables::type_name))]
@@ -129,6 +131,16 @@ fn give_types(
     Ok(())
 }
 
+/// Gives the type `object` to the variables that have none, where there are `count` in all.
+fn give_object(alloc: Global, kinds: &mut Vec<List<Text>>, count: usize) -> Result<(), AllocError>
+    requires { length kinds.old.items ≤ count }
+    ensures { OnOk result (kinds.new.items ≡ kinds.old.items
+        ++ replicate (count - length kinds.old.items) (OBJECT.now ∷ [])) }
+{
+    let object = Text::from_slice(alloc, OBJECT)?;
+    give_types(alloc, kinds, count, slice::from_ref(&object))
+}
+
 /// Reads `-` and types, and gives these to the variables that have none, where there are `count` in all.
 #[tactic(auto, using(crate::proofs::Steps::form_steps, crate::proofs::Listing::keyword_stands))]
 fn read_typing(
@@ -191,8 +203,34 @@ fn with_types(
     Ok(List::from_vec(params))
 }
 
+/// Reads typed variables up to the end of the group, and its `)`, behind those seen, of which the first
+/// have these types.
+#[tactic(auto, using(crate::proofs::Steps::form_steps, crate::proofs::Listing::variables_step))]
+fn read_more_variables(
+    alloc: Global,
+    cursor: &mut Cursor<'_>,
+    names: &Names,
+    seen: &mut IndexSet<Text>,
+    kinds: &mut Vec<List<Text>>,
+) -> Result<(), TextRefusal>
+    requires { length kinds.old.items ≤ length seen.old.keys }
+    ensures gives { Gives (λ _. (params_of seen.new.keys kinds.new.items, cursor.new)) result
+        (rest_at (variables_behind names.now seen.old.keys kinds.old.items) cursor.old) }
+    ensures fewer { OnOk result (size cursor.new < size cursor.old) }
+{
+    while cursor.has_form() {
+        if cursor.is_word(DASH) {
+            read_typing(alloc, cursor, names, seen.len(), kinds)?;
+        } else {
+            read_other_variable(alloc, cursor, seen)?;
+        }
+    }
+    give_object(alloc, kinds, seen.len())?;
+    cursor.close()
+}
+
 /// Reads typed variables up to the end of the group, and its `)`.
-#[tactic(auto, using(crate::proofs::Steps::form_steps, crate::proofs::Listing::variables_steps))]
+#[tactic(auto, using(crate::proofs::Listing::variables_is))]
 pub fn read_variables(
     alloc: Global,
     cursor: &mut Cursor<'_>,
@@ -203,17 +241,14 @@ pub fn read_variables(
 {
     let mut seen: IndexSet<Text> = IndexSet::new(alloc);
     let mut kinds: Vec<List<Text>> = Vec::new(alloc);
-    while cursor.has_form() {
-        if cursor.is_word(DASH) {
-            read_typing(alloc, cursor, names, seen.len(), &mut kinds)?;
-        } else {
-            read_other_variable(alloc, cursor, &mut seen)?;
+    match read_more_variables(alloc, cursor, names, &mut seen, &mut kinds) {
+        Ok(()) => Ok(with_types(alloc, seen, kinds)?),
+        Err(refusal) => {
+            drop(seen);
+            drop(kinds);
+            Err(refusal)
         }
     }
-    let object = Text::from_slice(alloc, OBJECT)?;
-    give_types(alloc, &mut kinds, seen.len(), &[object])?;
-    cursor.close()?;
-    Ok(with_types(alloc, seen, kinds)?)
 }
 
 /// Reads `( VARIABLES )`.

@@ -1,6 +1,6 @@
 //! Values that `:init` gives to functions.
 
-ghost use Rattle.std.specs.Prelude.{◌≡◌, [], ◌∷◌, ◌++◌, IfOk, OnOk, OnErr};
+ghost use Rattle.std.specs.Prelude.{◌≡◌, [], ◌∷◌, ◌++◌, map, IfOk, OnOk, OnErr};
 ghost use Rattle.ppddl_model.specs.Objects.{named, ground_atom};
 ghost use Rattle.ppddl_forms.specs.items.Values.{value_in};
 
@@ -41,16 +41,30 @@ fn word_of(term: &Term) -> &[u8]
     }
 }
 
+/// Puts copies of the words of terms without variables behind others. It is refused for want of memory
+/// alone.
+fn push_words(alloc: Global, terms: &[Term], words: &mut Vec<Text>) -> Result<(), AllocError>
+    ensures { OnOk result (words.new.items ≡ words.old.items ++ map (named []) terms.now) }
+{
+    for term in terms {
+        words.push(Text::from_slice(alloc, word_of(term))?)?;
+    }
+    Ok(())
+}
+
 /// A function with its objects. It is refused for want of memory alone.
 fn key_of(alloc: Global, function: &Atom) -> Result<List<Text>, AllocError>
     ensures { IfOk result (λ key. key ≡ ground_atom [] function.now) }
 {
-    let mut key = Vec::with_capacity(alloc, 1)?;
-    key.push(Text::from_slice(alloc, function.predicate.as_slice())?)?;
-    for arg in function.args.as_slice() {
-        key.push(Text::from_slice(alloc, word_of(arg))?)?;
+    let predicate = Text::from_slice(alloc, function.predicate.as_slice())?;
+    let mut key = vec![in alloc; predicate]?;
+    match push_words(alloc, function.args.as_slice(), &mut key) {
+        Ok(()) => Ok(List::from_vec(key)),
+        Err(refusal) => {
+            drop(key);
+            Err(refusal)
+        }
     }
-    Ok(List::from_vec(key))
 }
 
 impl Values {

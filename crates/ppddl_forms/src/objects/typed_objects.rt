@@ -44,7 +44,9 @@ impl TypedObjects {
     pub(super) fn into_list(self) -> List<ObjectDecl>
         ensures { result ≡ self }
     {
-        List::from_vec(self.list)
+        let TypedObjects { list, found } = self;
+        drop(found);
+        List::from_vec(list)
     }
 
     /// The type of an object of the list.

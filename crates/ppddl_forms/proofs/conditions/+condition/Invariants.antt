@@ -6,22 +6,28 @@ use Rattle.ppddl_forms.specs.Conditions.{condition, conditions}
 use Rattle.ppddl_forms.proofs.conditions.+condition.Given as goal
 
 abbrev pub decreases-read_condition : goal.decreases-read_condition
-decreases-read_condition l = 2 * size l.cursor.now
+decreases-read_condition l = 3 * size l.cursor.now
 
 abbrev pub decreases-read_condition_in : goal.decreases-read_condition_in
-decreases-read_condition_in l = 2 * size l.cursor.now
+decreases-read_condition_in l = 3 * size l.cursor.now
+
+abbrev pub decreases-read_boxed_condition : goal.decreases-read_boxed_condition
+decreases-read_boxed_condition l = 3 * size l.cursor.now + 1
 
 abbrev pub decreases-read_negation : goal.decreases-read_negation
-decreases-read_negation l = 2 * size l.cursor.now + 1
+decreases-read_negation l = 3 * size l.cursor.now + 2
 
 abbrev pub decreases-read_implication : goal.decreases-read_implication
-decreases-read_implication l = 2 * size l.cursor.now + 1
+decreases-read_implication l = 3 * size l.cursor.now + 2
+
+abbrev pub decreases-read_condition_under : goal.decreases-read_condition_under
+decreases-read_condition_under l = 3 * size l.cursor.now + 2
 
 abbrev pub decreases-read_quantified : goal.decreases-read_quantified
-decreases-read_quantified l = 2 * size l.cursor.now + 1
+decreases-read_quantified l = 3 * size l.cursor.now + 2
 
 abbrev pub decreases-read_conditions : goal.decreases-read_conditions
-decreases-read_conditions l = 2 * size l.cursor.now + 1
+decreases-read_conditions l = 3 * size l.cursor.now + 2
 
 abbrev pub decreases-read_conditions-loop-alloc : goal.decreases-read_conditions-loop-alloc
 decreases-read_conditions-loop-alloc l = size l.cursor

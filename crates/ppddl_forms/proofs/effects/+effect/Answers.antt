@@ -6,9 +6,9 @@ use Rattle.ppddl_forms.specs.Effects.{chances_of, effect}
 use Rattle.ppddl_forms.proofs.EffectSteps.{next_branch, chances_push}
 use Rattle.ppddl_forms.proofs.effects.+effect.Goals as goal
 
-pub read_branches-loop-alloc-preserved : goal.read_branches-loop-alloc-preserved
-read_branches-loop-alloc-preserved t c =
-    let seen = c.loop-alloc.branches.items in
+pub read_more_branches-loop-alloc-preserved : goal.read_more_branches-loop-alloc-preserved
+read_more_branches-loop-alloc-preserved t c =
+    let seen = c.loop-alloc.seen.items in
     let names = c.args.names.now in
     let branch : Branch = record { chance = c.in_ok-chance.chance; effect = c.in_ok-effect.effect } in
     let pushed : c.push.new.self.items ≡ seen ++ branch ∷ [] = c.in_ok-push.ensures.items in

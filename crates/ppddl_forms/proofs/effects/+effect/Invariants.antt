@@ -1,4 +1,4 @@
-use Rattle.std.proofs.Common.{◌≡◌, ◌≤◌, ◌*◌, ◌+◌, []}
+use Rattle.std.proofs.Common.{◌≡◌, ◌≤◌, ◌*◌, ◌+◌}
 use Rattle.ppddl_cursor.specs.Ahead.{size}
 use Rattle.ppddl_cursor.specs.Reading.{rest_at}
 use Rattle.ppddl_forms.specs.Sequences.{many_behind}
@@ -6,22 +6,31 @@ use Rattle.ppddl_forms.specs.Effects.{chances_of, effect, effects, branches}
 use Rattle.ppddl_forms.proofs.effects.+effect.Given as goal
 
 abbrev pub decreases-read_effect : goal.decreases-read_effect
-decreases-read_effect l = 2 * size l.cursor.now
+decreases-read_effect l = 3 * size l.cursor.now
 
 abbrev pub decreases-read_effect_in : goal.decreases-read_effect_in
-decreases-read_effect_in l = 2 * size l.cursor.now
+decreases-read_effect_in l = 3 * size l.cursor.now
 
 abbrev pub decreases-read_effects : goal.decreases-read_effects
-decreases-read_effects l = 2 * size l.cursor.now + 1
+decreases-read_effects l = 3 * size l.cursor.now + 2
+
+abbrev pub decreases-read_boxed_effect : goal.decreases-read_boxed_effect
+decreases-read_boxed_effect l = 3 * size l.cursor.now + 1
+
+abbrev pub decreases-read_effect_under : goal.decreases-read_effect_under
+decreases-read_effect_under l = 3 * size l.cursor.now + 2
 
 abbrev pub decreases-read_for_all : goal.decreases-read_for_all
-decreases-read_for_all l = 2 * size l.cursor.now + 1
+decreases-read_for_all l = 3 * size l.cursor.now + 2
 
 abbrev pub decreases-read_conditional : goal.decreases-read_conditional
-decreases-read_conditional l = 2 * size l.cursor.now + 1
+decreases-read_conditional l = 3 * size l.cursor.now + 2
+
+abbrev pub decreases-read_more_branches : goal.decreases-read_more_branches
+decreases-read_more_branches l = 3 * size l.cursor.now + 1
 
 abbrev pub decreases-read_branches : goal.decreases-read_branches
-decreases-read_branches l = 2 * size l.cursor.now + 1
+decreases-read_branches l = 3 * size l.cursor.now + 2
 
 abbrev pub decreases-read_effects-loop-alloc : goal.decreases-read_effects-loop-alloc
 decreases-read_effects-loop-alloc l = size l.cursor
@@ -33,13 +42,13 @@ invariant-read_effects-loop-alloc l = record {
   scope : l.scope ≡ l.fn.scope;
 }
 
-abbrev pub decreases-read_branches-loop-alloc : goal.decreases-read_branches-loop-alloc
-decreases-read_branches-loop-alloc l = size l.cursor
+abbrev pub decreases-read_more_branches-loop-alloc : goal.decreases-read_more_branches-loop-alloc
+decreases-read_more_branches-loop-alloc l = size l.cursor
 
-abbrev pub invariant-read_branches-loop-alloc : goal.invariant-read_branches-loop-alloc
-invariant-read_branches-loop-alloc l = record {
-  reads : rest_at (branches l.names l.fn.scope l.branches.items) l.cursor ≡ rest_at (branches l.names l.fn.scope []) l.fn.cursor;
-  chances : l.chances ≡ chances_of l.branches.items;
+abbrev pub invariant-read_more_branches-loop-alloc : goal.invariant-read_more_branches-loop-alloc
+invariant-read_more_branches-loop-alloc l = record {
+  reads : rest_at (branches l.names l.fn.scope l.seen.items) l.cursor ≡ rest_at (branches l.names l.fn.scope l.fn.seen.items) l.fn.cursor;
+  chances : l.chances ≡ chances_of l.seen.items;
   fewer : size l.cursor ≤ size l.fn.cursor;
   scope : l.scope ≡ l.fn.scope;
 }

@@ -3,11 +3,11 @@ use Rattle.ppddl_cursor.specs.Reading.{one_at, read_to}
 use Rattle.ppddl_forms.specs.Chances.{next_chance}
 use Rattle.ppddl_forms.specs.items.Items.{chances_of, with_branch}
 use Rattle.ppddl_forms.proofs.lemmas.items.ItemSteps.{branches_next, chances_push}
-use Rattle.ppddl_forms.proofs.items.branches.read_branches.Goals as goal
+use Rattle.ppddl_forms.proofs.items.branches.read_more_branches.Goals as goal
 
 pub loop-alloc-preserved : goal.loop-alloc-preserved
 loop-alloc-preserved c =
-    let seen = c.loop-alloc.branches.items in
+    let seen = c.loop-alloc.seen.items in
     let names = c.args.names.now in
     let pushed : c.push.new.self.items ≡ with_branch seen c.in_ok-chance.chance c.in_ok-atoms.atoms = c.in_ok-push.ensures.items in
     let chances : one_at (next_chance (chances_of seen)) c.loop-alloc.cursor ≡ read_to c.in_ok-chance.chance c.read_chance.new.cursor
