@@ -77,12 +77,17 @@ fn first_facts<'a>(alloc: Global, task: &'a Task) -> Result<FirstFacts<'a>, Allo
 {
     let changing = changing_predicates(alloc, task)?;
     let init = task.problem.init.as_slice();
-    let keys = keys_of_facts(alloc, init)?;
-    Ok(FirstFacts {
-        changing,
-        init,
-        keys,
-    })
+    match keys_of_facts(alloc, init) {
+        Ok(keys) => Ok(FirstFacts {
+            changing,
+            init,
+            keys,
+        }),
+        Err(refusal) => {
+            drop(changing);
+            Err(refusal)
+        }
+    }
 }
 
 impl<'a> TaskFacts<'a> {
@@ -92,9 +97,21 @@ impl<'a> TaskFacts<'a> {
         ensures { IfOk result (λ facts. facts ≡ task.now) }
     {
         let table = table(alloc, task)?;
-        let facts = first_facts(alloc, task)?;
-        let valued = keys_of_values(alloc, task.problem.values.as_slice())?;
-        let numbered = numbered_facts(alloc, &table, task)?;
+        let Ok(facts) = first_facts(alloc, task) else {
+            drop(table);
+            return Err(AllocError);
+        };
+        let Ok(valued) = keys_of_values(alloc, task.problem.values.as_slice()) else {
+            drop(table);
+            drop(facts);
+            return Err(AllocError);
+        };
+        let Ok(numbered) = numbered_facts(alloc, &table, task) else {
+            drop(table);
+            drop(facts);
+            drop(valued);
+            return Err(AllocError);
+        };
         Ok(TaskFacts {
             task,
             table,

@@ -9,7 +9,10 @@ ghost use Rattle.task_instances.specs.facts.Facts.{table_of};
 ghost use Rattle.task_instances.specs.kept_rows.Kept.{bound_to, IsAdded, AreKept};
 ghost use Rattle.task_instances.specs.kept_rows.Terms.{DecideValues};
 ghost use Rattle.task_instances.specs.kept_rows.Patterns.{terms_in, IsTermTest, ArePrepared};
-ghost use Rattle.task_instances.specs.kept_rows.Stages.{may_hold, params_of, IsLeft};
+ghost use Rattle.task_instances.specs.kept_rows.Stages.{conditions_of, conjuncts_of, may_hold};
+ghost use Rattle.task_instances.specs.kept_rows.Stages.{params_of, AreStages, IsLeft};
+ghost use Rattle.task_instances.specs.quantified_atoms.Quantified.{HasAtoms};
+ghost use Rattle.task_instances.specs.declared.quantified_atoms.atom_kind.AtomKind.TheVariants.{FunctionTerm};
 
 use crate::facts::TaskFacts;
 use crate::kept_rows::rows::Rows;
@@ -17,7 +20,7 @@ use crate::kept_rows::stages::{Stage, Stages, stages_of};
 use crate::kept_rows::term_test::{TermTest, are_passed, term_tests};
 use crate::kept_rows::test::{may_all_hold, may_all_pass};
 use crate::kept_rows::valued::are_valued_first;
-use crate::quantified_atoms::{AtomKind, atoms_of};
+use crate::quantified_atoms::{AtomKind, QuantifiedAtom, atoms_of};
 use ground_terms::{Scope, count_bindings};
 use ppddl_model::Action;
 use std::alloc::{AllocError, Global};
@@ -129,6 +132,80 @@ fn bind<'x>(
     Ok(())
 }
 
+/// Binds the parameters of the stages in all ways, and puts the rows of kept instances behind the others,
+/// unless a function term that names no parameter has no value.
+fn bind_terms(
+    alloc: Global,
+    facts: &TaskFacts<'_>,
+    action: &Action,
+    stages: &[Stage<'_>],
+    terms: &[QuantifiedAtom<'_>],
+    rows: &mut Rows,
+) -> Result<(), AllocError>
+    requires width { rows.old.width ≡ length action.now.params }
+    requires params { params_of stages.now ≡ action.now.params }
+    requires terms { HasAtoms (world facts.now) FunctionTerm action.now.effect terms.now }
+    requires prepared { ArePrepared facts.now action.now.params 0 stages.now }
+    requires left { IsLeft facts.now action.now.condition stages.now [] }
+    ensures { OnOk result (IsAdded facts.now action.now
+        (bindings (world facts.now) action.now.params []) rows.old rows.new) }
+{
+    let valued = are_valued_first(alloc, facts, terms)?;
+    if !valued {
+        return Ok(());
+    }
+    let tests = term_tests(alloc, facts, action.params.as_slice(), terms)?;
+    let mut row = Vec::new(alloc);
+    let mut buffer = Vec::new(alloc);
+    let bound = bind(
+        alloc,
+        facts,
+        action,
+        stages,
+        tests.as_slice(),
+        &Scope::Empty,
+        &mut row,
+        &mut buffer,
+        rows,
+    );
+    drop(tests);
+    bound
+}
+
+/// Binds the parameters of an action in all ways, and puts the rows of kept instances behind the others,
+/// unless a test that comes before any of them is known to be false.
+fn bind_stages(
+    alloc: Global,
+    facts: &TaskFacts<'_>,
+    action: &Action,
+    stages: &Stages<'_>,
+    rows: &mut Rows,
+) -> Result<(), AllocError>
+    requires width { rows.old.width ≡ length action.now.params }
+    requires stages { AreStages (table_of facts.now) action.now.params
+        (conjuncts_of action.now.condition) (conditions_of stages.now.first.items)
+        stages.now.stages.items }
+    requires prepared { ArePrepared facts.now action.now.params 0 stages.now.stages.items }
+    ensures { OnOk result (IsAdded facts.now action.now
+        (bindings (world facts.now) action.now.params []) rows.old rows.new) }
+{
+    let may = may_all_hold(alloc, facts, stages.first.as_slice(), &Scope::Empty)?;
+    if !may {
+        return Ok(());
+    }
+    let terms = atoms_of(alloc, facts, AtomKind::FunctionTerm, &action.effect)?;
+    let bound = bind_terms(
+        alloc,
+        facts,
+        action,
+        stages.stages.as_slice(),
+        terms.as_slice(),
+        rows,
+    );
+    drop(terms);
+    bound
+}
+
 /// The kept instances of an action, in lexicographic order, the last parameter fastest: for each the
 /// numbers of its objects. It is refused for want of memory alone.
 pub fn kept_bindings(
@@ -143,29 +220,9 @@ pub fn kept_bindings(
     if count_bindings(facts.table(), params) == 0 {
         return Ok(rows);
     }
-    let Stages { first, stages } = stages_of(alloc, facts, action)?;
-    let may = may_all_hold(alloc, facts, first.as_slice(), &Scope::Empty)?;
-    if !may {
-        return Ok(rows);
-    }
-    let terms = atoms_of(alloc, facts, AtomKind::FunctionTerm, &action.effect)?;
-    let valued = are_valued_first(alloc, facts, terms.as_slice())?;
-    if !valued {
-        return Ok(rows);
-    }
-    let tests = term_tests(alloc, facts, params, terms.as_slice())?;
-    let mut row = Vec::new(alloc);
-    let mut buffer = Vec::new(alloc);
-    bind(
-        alloc,
-        facts,
-        action,
-        stages.as_slice(),
-        tests.as_slice(),
-        &Scope::Empty,
-        &mut row,
-        &mut buffer,
-        &mut rows,
-    )?;
+    let stages = stages_of(alloc, facts, action)?;
+    let bound = bind_stages(alloc, facts, action, &stages, &mut rows);
+    drop(stages);
+    bound?;
     Ok(rows)
 }

@@ -5,7 +5,7 @@ use Rattle.std.specs.List.{list_any, IsDistinct}
 use Rattle.std.proofs.lemmas.List.{drop_all}
 use Rattle.ppddl_model.specs.declared.tree.Task.{Task}
 use Rattle.ppddl_model.specs.declared.tree.ValueItem.{ValueItem}
-use Rattle.ppddl_model.specs.State.{same_name, GroundAtom, same_atom, no_atoms, has}
+use Rattle.ppddl_model.specs.State.{same_name, GroundAtom, same_atom, no_atoms}
 use Rattle.ppddl_model.specs.Objects.{World}
 use Rattle.ppddl_model.specs.Functions.{is_value_of}
 use Rattle.ppddl_model.specs.Changing.{facts}
