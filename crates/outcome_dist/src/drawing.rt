@@ -197,11 +197,22 @@ fn draw_branches(
     let den = times(own, inner)?;
     let mut merged = Merging::new(alloc);
     for branch in branches {
-        let drafts = draw(alloc, &*within, &branch.effect, &*scope)?;
-        let factor = branch_factor(own, inner, within.table, branch)?;
-        merged = merged.put_all(drafts, factor)?;
+        let Ok(factor) = branch_factor(own, inner, within.table, branch) else {
+            drop(merged);
+            return Err(JointRefusal::Memory);
+        };
+        match draw(alloc, &*within, &branch.effect, &*scope) {
+            Ok(drafts) => merged = merged.put_all(drafts, factor)?,
+            Err(refusal) => {
+                drop(merged);
+                return Err(refusal);
+            }
+        }
     }
-    let used = merged.total()?;
+    let Ok(used) = merged.total() else {
+        drop(merged);
+        return Err(JointRefusal::Memory);
+    };
     let whole = merged.put(Draft::idle(alloc, den.saturating_sub(used)))?;
     Ok(whole.into_list())
 }

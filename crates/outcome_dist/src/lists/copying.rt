@@ -43,10 +43,10 @@ pub(super) fn copied_part(alloc: Global, part: &Part) -> Result<Part, AllocError
     ensures { IfOk result (λ p. p ≡ part.now) }
 {
     Ok(Part {
-        condition: copied(alloc, &part.condition)?,
         adds: Vec::from_slice(alloc, part.adds.as_slice())?,
         deletes: Vec::from_slice(alloc, part.deletes.as_slice())?,
         cost: part.cost,
+        condition: copied(alloc, &part.condition)?,
     })
 }
 

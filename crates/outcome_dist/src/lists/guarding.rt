@@ -37,10 +37,10 @@ fn own_part(
         return Ok(parts);
     }
     parts.push(Part {
-        condition: copied(alloc, condition)?,
         adds: Vec::from_slice(alloc, draft.adds.as_slice())?,
         deletes: Vec::from_slice(alloc, draft.deletes.as_slice())?,
         cost: draft.cost,
+        condition: copied(alloc, condition)?,
     })?;
     Ok(parts)
 }

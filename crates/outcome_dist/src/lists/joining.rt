@@ -1,13 +1,41 @@
 //! Two choices at once.
 
-ghost use Rattle.std.specs.Prelude.{◌≡◌, IfOk};
+ghost use Rattle.std.specs.Prelude.{◌≡◌, ◌++◌, IfOk, OnOk};
 ghost use Rattle.ground_meaning.specs.choices.Joint.{joined};
 ghost use Rattle.outcome_dist.specs.lists.Piles.{piled, settled};
 
 use crate::lists::atoms::{less, make_rising, united};
 use crate::lists::copying::push_copies;
 use crate::lists::draft::Draft;
+use crate::lists::part::Part;
 use std::alloc::{AllocError, Global};
+
+/// Puts copies of the guarded parts of both lists behind others.
+fn push_both(
+    alloc: Global,
+    parts: &mut Vec<Part>,
+    first: &[Part],
+    second: &[Part],
+) -> Result<(), AllocError>
+    ensures { OnOk result (parts.new.items ≡ (parts.old.items ++ first.now) ++ second.now) }
+{
+    push_copies(alloc, parts, first)?;
+    push_copies(alloc, parts, second)
+}
+
+/// Copies of the guarded parts of both lists.
+fn both_parts(alloc: Global, first: &[Part], second: &[Part]) -> Result<Vec<Part>, AllocError>
+    ensures { IfOk result (λ v. v.items ≡ first.now ++ second.now) }
+{
+    let mut parts = Vec::with_capacity(alloc, first.len() + second.len())?;
+    match push_both(alloc, &mut parts, first, second) {
+        Ok(()) => Ok(parts),
+        Err(error) => {
+            drop(parts);
+            Err(error)
+        }
+    }
+}
 
 /// Both choices. A weight beyond 64 bits, or a cost beyond 128, has no room, and is want of memory.
 pub(super) fn joined(alloc: Global, first: &Draft, second: &Draft) -> Result<Draft, AllocError>
@@ -18,9 +46,7 @@ pub(super) fn joined(alloc: Global, first: &Draft, second: &Draft) -> Result<Dra
     let adds = united(alloc, first.adds.as_slice(), second.adds.as_slice())?;
     let together = united(alloc, first.deletes.as_slice(), second.deletes.as_slice())?;
     let deletes = less(alloc, together, adds.as_slice())?;
-    let mut guarded = Vec::with_capacity(alloc, first.guarded.len() + second.guarded.len())?;
-    push_copies(alloc, &mut guarded, first.guarded.as_slice())?;
-    push_copies(alloc, &mut guarded, second.guarded.as_slice())?;
+    let guarded = both_parts(alloc, first.guarded.as_slice(), second.guarded.as_slice())?;
     Ok(Draft {
         weight,
         cost,

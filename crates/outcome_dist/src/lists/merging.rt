@@ -59,9 +59,15 @@ fn new_keys(alloc: Global, list: &[Draft]) -> Result<IndexSet<Key>, AllocError>
 {
     let mut keys = IndexSet::new(alloc);
     for draft in list {
-        let Ok(_) = keys.insert(key_of(alloc, draft)?) else {
+        let Ok(key) = key_of(alloc, draft) else {
+            drop(keys);
             return Err(AllocError);
         };
+        if let Err(failed) = keys.insert(key) {
+            drop(failed);
+            drop(keys);
+            return Err(AllocError);
+        }
     }
     Ok(keys)
 }
@@ -98,14 +104,22 @@ fn find(
         (λ r. r.1 ≡ position_or_len (λ x. same_choice x draft.now) list.now) }
 {
     if list.len() < HASHED_LENGTH {
+        drop(keys);
         return Ok((None, place_of(alloc, list, draft)?));
     }
     let mut keys = keys_of(alloc, keys, list)?;
-    let key = key_of(alloc, draft)?;
-    let Ok((place, _)) = keys.insert_full(key) else {
+    let Ok(key) = key_of(alloc, draft) else {
+        drop(keys);
         return Err(AllocError);
     };
-    Ok((Some(keys), place))
+    match keys.insert_full(key) {
+        Ok((place, _)) => Ok((Some(keys), place)),
+        Err(failed) => {
+            drop(failed);
+            drop(keys);
+            Err(AllocError)
+        }
+    }
 }
 
 impl Merging {
@@ -135,6 +149,7 @@ impl Merging {
         ensures refused { IfErr result (λ e. IsTooMany e (merging self (draft ∷ []))) }
     {
         if draft.weight == 0 {
+            drop(draft);
             return Ok(self);
         }
         let Merging {
@@ -142,16 +157,19 @@ impl Merging {
             keys,
             mut list,
         } = self;
-        let (keys, place) = find(alloc, keys, list.as_slice(), &draft)?;
-        if place < list.len() {
-            add_weight(&mut list, place, draft.weight)?;
-            return Ok(Merging { alloc, keys, list });
+        let Ok((keys, place)) = find(alloc, keys, list.as_slice(), &draft) else {
+            drop(list);
+            drop(draft);
+            return Err(JointRefusal::Memory);
+        };
+        match put_at(&mut list, place, draft) {
+            Ok(()) => Ok(Merging { alloc, keys, list }),
+            Err(refusal) => {
+                drop(keys);
+                drop(list);
+                Err(refusal)
+            }
         }
-        if list.len() >= MOST_CHOICES {
-            return Err(JointRefusal::Choices);
-        }
-        list.push(draft)?;
-        Ok(Merging { alloc, keys, list })
     }
 }
 
@@ -164,6 +182,8 @@ impl Merging {
             (λ e. IsTooMany e (merging self (scaled factor draft ∷ []))) }
     {
         let Some(weight) = factor.checked_mul(draft.weight) else {
+            drop(self);
+            drop(draft);
             return Err(JointRefusal::Memory);
         };
         draft.weight = weight;
@@ -206,6 +226,28 @@ fn add_weight(list: &mut Vec<Draft>, place: usize, weight: u64) -> Result<(), Al
     Ok(())
 }
 
+/// Merges a choice into a list at the place of the first one in it that is equal, or else at its end.
+fn put_at(list: &mut Vec<Draft>, place: usize, draft: Draft) -> Result<(), JointRefusal>
+    requires place { place ≡ position_or_len (λ x. same_choice x draft) list.old.items }
+    requires few { length list.old.items ≤ MOST_CHOICES }
+    ensures put { OnOk result (list.new.items ≡ with_item same_choice added list.old.items draft) }
+    ensures few { OnOk result (length list.new.items ≤ MOST_CHOICES) }
+    ensures refused { IfErr result
+        (λ e. IsTooMany e (with_item same_choice added list.old.items draft)) }
+{
+    if place < list.len() {
+        let weight = draft.weight;
+        drop(draft);
+        return Ok(add_weight(list, place, weight)?);
+    }
+    if list.len() >= MOST_CHOICES {
+        drop(draft);
+        return Err(JointRefusal::Choices);
+    }
+    list.push(draft)?;
+    Ok(())
+}
+
 /// The list with both choices at once merged into it.
 fn put_joined(
     alloc: Global,
@@ -217,7 +259,13 @@ fn put_joined(
     ensures refused { IfErr result
         (λ e. IsTooMany e (merging list (joined first.now second.now ∷ []))) }
 {
-    list.put(joining::joined(alloc, first, second)?)
+    match joining::joined(alloc, first, second) {
+        Ok(draft) => list.put(draft),
+        Err(error) => {
+            drop(list);
+            Err(JointRefusal::from(error))
+        }
+    }
 }
 
 /// The list with a choice at once with each of others merged into it.
@@ -260,7 +308,13 @@ fn put_settled(alloc: Global, list: Merging, draft: Draft) -> Result<Merging, Jo
     ensures put { IfOk result (λ m. m ≡ merging list (settled draft ∷ [])) }
     ensures refused { IfErr result (λ e. IsTooMany e (merging list (settled draft ∷ []))) }
 {
-    list.put(joining::settled(alloc, draft)?)
+    match joining::settled(alloc, draft) {
+        Ok(draft) => list.put(draft),
+        Err(error) => {
+            drop(list);
+            Err(JointRefusal::from(error))
+        }
+    }
 }
 
 /// The choices with their atoms settled, merged.

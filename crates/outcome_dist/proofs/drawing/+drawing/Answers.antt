@@ -254,27 +254,27 @@ draw_branches-loop-branch-preserved t c =
     let w : World = world_of c.args.within.now in let n : Numbering = numbering_of c.args.within.now in let b : Binding = binding_of c.args.scope.now in
     let x : Branch = c.branch-item.result in
     let i : ℕ = c.loop-branch.branch-index in
-    let factor = branch_is n c.in_ok-own.own c.in_ok-inner.inner b c.args.within.now.table.now c.args.within.now.values.now x c.in_ok-factor.factor c.in_ok-drafts.drafts.items
-    c.in_ok-factor.ensures c.in_ok-drafts.ensures.found in
-    gathered_more w n c.in_ok-own.own c.in_ok-inner.inner b c.loop-branch.merged c.in_ok-merged.merged x (drop (i + 1) c.args.branches.now) c.args.branches.now
+    let factor = branch_is n c.in_ok-own.own c.in_ok-inner.inner b c.args.within.now.table.now c.args.within.now.values.now x c.in-Ok.factor c.in-Ok-draw.drafts.items
+    c.in-Ok.ensures c.in-Ok-draw.ensures.found in
+    gathered_more w n c.in_ok-own.own c.in_ok-inner.inner b c.loop-branch.merged c.in_ok-merged-in-Ok-draw.merged x (drop (i + 1) c.args.branches.now) c.args.branches.now
     (gathered_list w n c.in_ok-own.own c.in_ok-inner.inner b c.loop-branch.merged (drop i c.args.branches.now) (x ∷ drop (i + 1) c.args.branches.now) c.args.branches.now
     (drop_at c.args.branches.now i x x c.loop-branch-test.true c.branch-item.is) c.loop-branch.invariant)
-    (c.in_ok-merged.ensures.put ∙ ap (merging c.loop-branch.merged) factor) c.in_ok-drafts.ensures.narrow
+    (c.in_ok-merged-in-Ok-draw.ensures.put ∙ ap (merging c.loop-branch.merged) factor) c.in-Ok-draw.ensures.narrow
 
-pub draw_branches-returns-in_err-merged-clause-refused : goal.draw_branches-returns-in_err-merged-clause-refused
-draw_branches-returns-in_err-merged-clause-refused t c =
+pub draw_branches-returns-in_err-merged-in-Ok-draw-clause-refused : goal.draw_branches-returns-in_err-merged-in-Ok-draw-clause-refused
+draw_branches-returns-in_err-merged-in-Ok-draw-clause-refused t c =
     let w : World = world_of c.args.within.now in let n : Numbering = numbering_of c.args.within.now in let b : Binding = binding_of c.args.scope.now in
     let x : Branch = c.branch-item.result in
     let i : ℕ = c.loop-branch.branch-index in
-    let factor = branch_is n c.in_ok-own.own c.in_ok-inner.inner b c.args.within.now.table.now c.args.within.now.values.now x c.in_ok-factor.factor c.in_ok-drafts.drafts.items
-    c.in_ok-factor.ensures c.in_ok-drafts.ensures.found in
-    let k : IsWide c.in_err-merged.field-0.0 (branches_width w n c.args.branches.now b) =
-    subst (IsWide c.in_err-merged.field-0.0)
+    let factor = branch_is n c.in_ok-own.own c.in_ok-inner.inner b c.args.within.now.table.now c.args.within.now.values.now x c.in-Ok.factor c.in-Ok-draw.drafts.items
+    c.in-Ok.ensures c.in-Ok-draw.ensures.found in
+    let k : IsWide c.in_err-merged-in-Ok-draw.field-0.0 (branches_width w n c.args.branches.now b) =
+    subst (IsWide c.in_err-merged-in-Ok-draw.field-0.0)
     (width_is n c.in_ok-own.own c.in_ok-inner.inner b c.args.within.now.table.now c.args.within.now.values.now c.args.branches.now c.in_ok-own.ensures c.in_ok-inner.ensures)
-    (gather_refused w n c.in_ok-own.own c.in_ok-inner.inner b c.in_err-merged.field-0.0 c.loop-branch.merged x (drop (i + 1) c.args.branches.now) c.args.branches.now
+    (gather_refused w n c.in_ok-own.own c.in_ok-inner.inner b c.in_err-merged-in-Ok-draw.field-0.0 c.loop-branch.merged x (drop (i + 1) c.args.branches.now) c.args.branches.now
     (gathered_list w n c.in_ok-own.own c.in_ok-inner.inner b c.loop-branch.merged (drop i c.args.branches.now) (x ∷ drop (i + 1) c.args.branches.now) c.args.branches.now
     (drop_at c.args.branches.now i x x c.loop-branch-test.true c.branch-item.is) c.loop-branch.invariant)
-    (subst (λ l. IsTooMany c.in_err-merged.field-0.0 (merging c.loop-branch.merged l)) factor c.in_err-merged.ensures.refused)) in
+    (subst (λ l. IsTooMany c.in_err-merged-in-Ok-draw.field-0.0 (merging c.loop-branch.merged l)) factor c.in_err-merged-in-Ok-draw.ensures.refused)) in
     search (rules, k)
 
 pub draw_branches-returns-in_err-whole-clause-refused : goal.draw_branches-returns-in_err-whole-clause-refused
@@ -288,8 +288,8 @@ draw_branches-returns-in_err-whole-clause-refused t c =
     let k : IsWide c.in_err-whole.field-0.0 (branches_width w n c.args.branches.now b) =
     subst (IsWide c.in_err-whole.field-0.0)
     (width_is n c.in_ok-own.own c.in_ok-inner.inner b c.args.within.now.table.now c.args.within.now.values.now c.args.branches.now c.in_ok-own.ensures c.in_ok-inner.ensures)
-    (rest_refused w n c.in_ok-own.own c.in_ok-inner.inner b c.in_err-whole.field-0.0 c.loop-branch.merged c.args.branches.now c.in_ok-den.den c.in_ok-used.used kept
-    c.in_ok-den.ensures c.in_ok-used.ensures
+    (rest_refused w n c.in_ok-own.own c.in_ok-inner.inner b c.in_err-whole.field-0.0 c.loop-branch.merged c.args.branches.now c.in_ok-den.den c.in-Ok-total.used kept
+    c.in_ok-den.ensures c.in-Ok-total.ensures
     (subst (λ (d : Choice). IsTooMany c.in_err-whole.field-0.0 (merging c.loop-branch.merged (d ∷ []))) rest c.in_err-whole.ensures.refused)) in
     search (rules, k)
 
@@ -302,7 +302,7 @@ draw_branches-returns-clause-found t c =
     (drop-all i c.args.branches.now past) c.loop-branch.invariant in
     let rest = c.idle.ensures ∙ ap idle c.saturating_sub.ensures in
     c.into_list.ensures.list ∙ c.in_ok-whole.ensures.put ∙ ap (λ (d : Choice). merging c.loop-branch.merged (d ∷ [])) rest
-    ∙ with_the_rest w n c.in_ok-own.own c.in_ok-inner.inner b c.loop-branch.merged c.args.branches.now c.in_ok-den.den c.in_ok-used.used kept c.in_ok-den.ensures c.in_ok-used.ensures
+    ∙ with_the_rest w n c.in_ok-own.own c.in_ok-inner.inner b c.loop-branch.merged c.args.branches.now c.in_ok-den.den c.in-Ok-total.used kept c.in_ok-den.ensures c.in-Ok-total.ensures
     ∙ whole_same n c.in_ok-own.own c.in_ok-inner.inner b c.args.within.now.table.now c.args.within.now.values.now c.args.branches.now c.in_ok-own.ensures c.in_ok-inner.ensures
 
 pub draw_branches-returns-clause-narrow : goal.draw_branches-returns-clause-narrow
@@ -315,7 +315,7 @@ draw_branches-returns-clause-narrow t c =
     let rest = c.idle.ensures ∙ ap idle c.saturating_sub.ensures in
     let is : c.in_ok-whole.whole ≡ whole w n c.in_ok-own.own c.in_ok-inner.inner b c.args.branches.now =
     c.in_ok-whole.ensures.put ∙ ap (λ (d : Choice). merging c.loop-branch.merged (d ∷ [])) rest
-    ∙ with_the_rest w n c.in_ok-own.own c.in_ok-inner.inner b c.loop-branch.merged c.args.branches.now c.in_ok-den.den c.in_ok-used.used kept c.in_ok-den.ensures c.in_ok-used.ensures in
+    ∙ with_the_rest w n c.in_ok-own.own c.in_ok-inner.inner b c.loop-branch.merged c.args.branches.now c.in_ok-den.den c.in-Ok-total.used kept c.in_ok-den.ensures c.in-Ok-total.ensures in
     subst (λ k. k ≤ MOST_CHOICES)
     (width_is n c.in_ok-own.own c.in_ok-inner.inner b c.args.within.now.table.now c.args.within.now.values.now c.args.branches.now c.in_ok-own.ensures c.in_ok-inner.ensures)
     (all_narrow w n c.in_ok-own.own c.in_ok-inner.inner b c.loop-branch.merged c.args.branches.now kept

@@ -157,19 +157,6 @@ missing_at xs y place is high = either (list_any (alike y) xs) refl
     either true e = let low = (placed xs y e).within in absurd (omega (arith, is, high, low))
     either false e = missing xs y e
 
-length-set : (xs : List Choice) (place : ℕ) (c : Choice) → length (slice_set xs place c) ≡ length xs
-length-set [] place c = refl
-length-set (x ∷ xs) zero c = refl
-length-set (x ∷ xs) (suc place) c = ap suc (length-set xs place c)
-
-pub set_length : (xs new : List Choice) (place : ℕ) (c : Choice) (most : ℕ) → new ≡ slice_set xs place c → length xs ≤ most → length new ≤ most
-set_length xs new place c most is few = let same : length new ≡ length (slice_set xs place c) = ap length is in omega (arith, same, length-set xs place c, few)
-
--- ---- weights
-
-pub merging_one : (done : List Choice) (y : Choice) → nat_eq y.weight 0 ≡ false → merging done (y ∷ []) ≡ with_item same_choice added done y
-merging_one done y e = ap (λ b. with_items same_choice added done (elim b as (λ _. List Choice) [ true ↦ [] | false ↦ y ∷ [] ])) e
-
 -- ---- lists into a list
 
 with_items-append : (done ys zs : List Choice) → with_items same_choice added done (ys ++ zs) ≡ with_items same_choice added (with_items same_choice added done ys) zs
