@@ -3,7 +3,6 @@ use Rattle.std.specs.Prelude.{Ok}
 use Rattle.std.proofs.lemmas.Result.{err_from_is_err_and}
 use Rattle.ppddl_model.specs.declared.tree.Task.{Task}
 use Rattle.ppddl_model.specs.Steps as model
-use Rattle.ppddl_model.specs.Steps.{base_cost}
 use Rattle.ground_meaning.specs.refusals.Limits.{grounded}
 use Rattle.grounder.specs.declared.parts.Parts.{Parts}
 use Rattle.grounder.specs.Answers.{terms_of, Answers}
