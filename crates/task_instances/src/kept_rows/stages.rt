@@ -1,10 +1,10 @@
 //! The order in which the parameters of an action are bound and the parts of its precondition are tested.
 
-ghost use Rattle.std.specs.Prelude.{◌≡◌, ◌++◌, ◌∷◌, [], cond, not, filter, reverse, All, IfOk, OnOk};
+ghost use Rattle.std.specs.Prelude.{◌≡◌, ◌++◌, ◌∷◌, [], cond, not, filter, IfOk, OnOk};
 ghost use Rattle.task_instances.specs.facts.Facts.{table_of};
 ghost use Rattle.task_instances.specs.kept_rows.Stages.{names_variable, conjuncts_of, conditions_of};
-ghost use Rattle.task_instances.specs.kept_rows.Stages.{tests_of, HasRange, AreStages};
-ghost use Rattle.task_instances.specs.kept_rows.Patterns.{IsTest, ArePrepared};
+ghost use Rattle.task_instances.specs.kept_rows.Stages.{AreStages};
+ghost use Rattle.task_instances.specs.kept_rows.Patterns.{ArePrepared};
 
 use crate::facts::TaskFacts;
 use crate::kept_rows::test::{Test, tests_of};
@@ -115,55 +115,6 @@ fn split_by<'a>(
     Ok(parts)
 }
 
-/// The stage of a parameter, the last of these, that stands in each of the conditions.
-fn stage_of<'a>(
-    alloc: Global,
-    facts: &TaskFacts<'_>,
-    params: &[Param],
-    param: &'a Param,
-    naming: &[&'a Condition],
-) -> Result<Stage<'a>, AllocError>
-    ensures param { IfOk result (λ s. s.param.now ≡ param.now) }
-    ensures objects { IfOk result (HasRange (table_of facts.now)) }
-    ensures conditions { IfOk result (λ s. tests_of s ≡ conditions_of naming.now) }
-    ensures tests { IfOk result (λ s. All (IsTest facts.now params.now) s.tests.items) }
-{
-    let objects = objects_of(alloc, facts.table(), param)?;
-    let tests = tests_of(alloc, facts, params, naming)?;
-    Ok(Stage {
-        param,
-        objects,
-        tests,
-    })
-}
-
-/// Puts in the stages of the parameters, the last first. The conditions in which a parameter stands go from
-/// the first ones into its stage.
-fn add_stages<'a>(
-    alloc: Global,
-    facts: &TaskFacts<'_>,
-    params: &'a [Param],
-    first: &mut Vec<&'a Condition>,
-    stages: &mut Vec<Stage<'a>>,
-) -> Result<(), AllocError>
-    requires { stages.old.items ≡ [] }
-    ensures stages { OnOk result (AreStages (table_of facts.now) params.now
-        (conditions_of first.old.items) (conditions_of first.new.items) (reverse stages.new.items)) }
-    ensures prepared { OnOk result
-        (ArePrepared facts.now params.now 0 (reverse stages.new.items)) }
-{
-    let mut place = params.len();
-    while place > 0 {
-        place -= 1;
-        let param = &params[place];
-        let Split { naming, others } = split_by(alloc, first.as_slice(), param.name.as_slice())?;
-        *first = others;
-        let stage = stage_of(alloc, facts, &params[..place + 1], param, naming.as_slice())?;
-        stages.push(stage)?;
-    }
-    Ok(())
-}
-
 /// The parameters of an action in order, each with the parts of its precondition in which it stands and no
 /// later one does.
 pub(super) fn stages_of<'a>(
@@ -176,17 +127,22 @@ pub(super) fn stages_of<'a>(
     ensures prepared { IfOk result (λ s. ArePrepared facts.now action.now.params 0 s.stages.items) }
 {
     let params = action.params.as_slice();
-    let mut first = conjuncts_of(alloc, &action.condition)?;
     let mut stages = Vec::new(alloc);
-    match add_stages(alloc, facts, params, &mut first, &mut stages) {
-        Ok(()) => {
-            stages.reverse();
-            Ok(Stages { first, stages })
-        }
-        Err(refusal) => {
-            drop(first);
-            drop(stages);
-            Err(refusal)
-        }
+    let mut first = conjuncts_of(alloc, &action.condition)?;
+    let mut place = params.len();
+    while place > 0 {
+        place -= 1;
+        let param = &params[place];
+        let objects = objects_of(alloc, facts.table(), param)?;
+        let Split { naming, others } = split_by(alloc, first.as_slice(), param.name.as_slice())?;
+        let tests = tests_of(alloc, facts, &params[..place + 1], naming.as_slice())?;
+        stages.push(Stage {
+            param,
+            objects,
+            tests,
+        })?;
+        first = others;
     }
+    stages.reverse();
+    Ok(Stages { first, stages })
 }
