@@ -3,7 +3,10 @@ pub mod Exchanges
 pub mod Flow
 pub mod Names
 pub mod Verdict
+pub mod Named
 pub mod Answering
 pub mod Statuses
+pub mod States
+pub mod Replies
 pub mod Solved
 pub mod lemmas

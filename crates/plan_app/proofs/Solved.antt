@@ -18,8 +18,8 @@ use Rattle.ground_meaning.specs.progress.Width.{IsNarrow}
 use Rattle.ground_meaning.specs.progress.Laws.{TaskIntervalNarrows}
 use Rattle.ground_model.specs.Ground.{Ground}
 use Rattle.ground_model.specs.Steps.{ground_process, ground_starts}
-use Rattle.ground_meaning.specs.stands.Laws.{SamePlain, SameDepth}
-use Rattle.plan_app.specs.certificates.Laws.{BalanceIsCarried, TaskIsEnclosed}
+use Rattle.ground_meaning.specs.stands.Laws.{IsCarried, StatesAreFound, NearIsCarried, NearIsFound, SameLeast, SamePlain, SameDepth}
+use Rattle.plan_app.specs.certificates.Laws.{NamesAreCarried, BalanceIsCarried, TaskIsEnclosed, TaskPolicyEnds}
 use Rattle.plan_request.specs.declared.effort.Effort.{Effort}
 use Rattle.plan_request.specs.declared.sizes.Sizes.{Sizes}
 use Rattle.plan_request.specs.Asked.{Sources, Solving, to_solve, to_serve, to_bench}
@@ -34,6 +34,7 @@ use Rattle.plan_search.specs.Serving.{stop_of, IsServiceOf, KeepsEach}
 use Rattle.policy_server.specs.declared.serve_end.ServeEnd.{ServeEnd}
 use Rattle.policy_server.specs.declared.served.Served.{Served}
 use Rattle.policy_server.specs.Replies.{Reply}
+use Rattle.policy_server.specs.Lines.{queries_of}
 use Rattle.policy_server.specs.Serving.{Input}
 use Rattle.plan_request.specs.declared.stop.Stop.{Stop}
 use Rattle.plan_request.specs.declared.stop.Stop.TheVariants.{BadWords, ReadFailed, WriteFailed, NoMemory, Refused, NotAccepted, Limit}
@@ -46,6 +47,9 @@ use Rattle.plan_app.specs.Measuring.{line_sources, line_problem, bench_effort, b
 use Rattle.plan_app.specs.Endings.{said_by, IsMeasured, exchange, Answered, AnswersLine, IsWritten, AnswersSearch, AnswersSolve, EndsBehind, HasService, MayEndAs}
 use Rattle.plan_app.specs.Verdicts.{TellsSearch, HasVerdict, HasReport}
 use Rattle.plan_app.specs.Solutions.{IsAsNarrowAsPlain, Solves, PutsSolution, PutsService, PutsMeasure}
+use Rattle.plan_app.proofs.Named.{names_balanced, names_enclose, names_end}
+use Rattle.plan_app.proofs.Replies.{replies_cover}
+use Rattle.plan_app.proofs.States.{states_found}
 use Rattle.plan_app.proofs.Exchanges.{stops_by_fault}
 use Rattle.plan_app.proofs.Statuses.{answered_so, request_ends, answers_of}
 
@@ -151,7 +155,9 @@ report_is_a_verdict status is = record {
 pub line_terms : AreTerms line_sources
 line_terms = record { penalty = tt; step_cost = omega arith }
 
-module _ (stands : ProblemStands) (depths : SameDepth) (plain : SamePlain) (carried : BalanceIsCarried) (enclosed : TaskIsEnclosed)
+module _ (stands : ProblemStands) (back : StatesAreFound) (near_carried : NearIsCarried) (near_found : NearIsFound)
+    (process_carried : IsCarried) (least_same : SameLeast)
+    (depths : SameDepth) (plain : SamePlain) (names : NamesAreCarried) (carried : BalanceIsCarried) (enclosed : TaskIsEnclosed) (ending : TaskPolicyEnds)
     (narrows : (task : Task) (charges : Charges) → TaskIntervalNarrows task charges) (sums : (task : Task) → WellFormedSums task)
     (proper : (task : Task) → ChancesAreProper task) (proper_starts : (task : Task) → StartsAreProper task) where
   solved : (s : Sources) (t : Texts) → AreTerms s → (effort : Effort) (sizes : Sizes) (status : ℕ) (g : Ground) → problem_of s t ≡ Ok g
@@ -173,9 +179,11 @@ module _ (stands : ProblemStands) (depths : SameDepth) (plain : SamePlain) (carr
         converged = converged;
         is_narrow = found_narrow g effort sizes c x found;
         of_task = of_task;
-        balanced = (carried g of_task.task of_task.charges of_task.stands c).0 found.balanced.balanced;
-        encloses = enclosed g of_task.task of_task.charges of_task.stands c found.balanced;
+        balanced = names_balanced names g of_task.task of_task.charges of_task.stands c found.balanced carried;
+        encloses = names_enclose names g of_task.task of_task.charges of_task.stands c found.balanced enclosed;
+        ends = names_end names g of_task.task of_task.charges of_task.stands c found.balanced ending all;
         is_narrow_for_task = narrow;
+        finds = states_found back names near_carried near_found depths g of_task.task of_task.charges of_task.stands effort sizes c x found;
         width = λ k N m least enough often.
             narrow_within of_task.charges.penalty k m _ _ c.lower c.upper narrow.low narrow.high
             (narrows of_task.task of_task.charges of_task.stands.denominators (proper of_task.task all) (proper_starts of_task.task all)
@@ -255,12 +263,17 @@ module _ (stands : ProblemStands) (depths : SameDepth) (plain : SamePlain) (carr
           let service = wrote.is_answer in
           let has = solution_from (IsServiceOf g s.effort s.sizes replies) wrote service.is_answer in
           let kept_here = subst (λ c. KeepsEach g c replies) (sym has.same_content) service.kept in
+          let found : Solves s.sources t s.effort s.sizes status = has.solution.solves in
+          let answered_here : Answered found.g (exchange from to ends.answers) served replies =
+          subst (λ h. Answered h (exchange from to ends.answers) served replies) (sym has.same_problem) answered in
           record {
             answers = ends.answers;
             solution = has.solution;
             served = served;
             replies = replies;
-            answered = subst (λ h. Answered h (exchange from to ends.answers) served replies) (sym has.same_problem) answered;
+            answered = answered_here;
+            covers = replies_cover process_carried least_same found.g found.of_task.task found.of_task.charges found.of_task.stands
+                (queries_of answered_here.answered.bytes answered_here.answered.ended) replies answered_here.answered.fit answered_here.sound;
             no_fault = whole;
             kept = subst (λ h. KeepsEach h has.solution.solves.c replies) (sym has.same_problem) kept_here;
           }

@@ -1,5 +1,5 @@
 -- The clauses of the top call, from how the words may end and what was put.
-use Rattle.std.proofs.Common.{◌≡◌, ◌≢◌, ℕ, ◌⊎◌, inl, inr, List, refl, sym, ap, ◌∙◌, ◌++◌, subst, arith, Option, Some, None, Result, Ok, Err}
+use Rattle.std.proofs.Common.{◌≡◌, ◌≢◌, ℕ, ◌⊎◌, inl, inr, List, [], refl, sym, ap, ◌∙◌, ◌++◌, subst, arith, Option, Some, None, Result, Ok, Err}
 use Rattle.std.specs.Prelude.{◌↔◌}
 use Rattle.std.specs.Borrow.{Bor}
 use Rattle.std.specs.Io.KnownBytes.{Appends}
@@ -11,7 +11,7 @@ use Rattle.certificate_check.specs.Laws.{AcceptedIsBalanced}
 use Rattle.ppddl_model.specs.Laws.{WellFormedSums}
 use Rattle.ppddl_model.specs.declared.tree.Task.{Task}
 use Rattle.ground_model.specs.Ground.{Ground}
-use Rattle.plan_app.specs.certificates.Laws.{BalanceIsCarried, TaskIsEnclosed, TaskPolicyEnds}
+use Rattle.plan_app.specs.certificates.Laws.{NamesAreCarried, BalanceIsCarried, TaskIsEnclosed, TaskPolicyEnds}
 use Rattle.plan_request.specs.Asked.{Sources, Solving, Asked, to_solve, to_check, to_serve, to_ground, to_bench}
 use Rattle.plan_request.specs.Laws.{AreTerms}
 use Rattle.plan_request.specs.declared.stop.report.Report.TheVariants.{Done, GapLeft}
@@ -24,13 +24,14 @@ use Rattle.policy_server.specs.Serving.{Input}
 use Rattle.plan_sources.specs.declared.texts.Texts.{Texts}
 use Rattle.plan_sources.specs.Problems.{problem_of}
 use Rattle.plan_sources.specs.Sources.{MayGiveProblem}
-use Rattle.plan_sources.specs.Laws.{OneProblemIsTold, TextsStopSo, ProblemStands}
+use Rattle.plan_sources.specs.Laws.{OneProblemIsTold, TextsStopSo, TextsAreRefusedSo, ProblemStands}
 use Rattle.plan_app.specs.Asking.{asked_by, IsToServe, Asks, AsksNothing, AsksToServe}
 use Rattle.plan_app.specs.Endings.{Exchange, exchange, Lacks, Answers, EndsBehind, MayEndRequest, HasService, ServiceFor, MayEndWords, MayEndAs}
-use Rattle.plan_app.specs.Verdicts.{sources_of, TellsTexts, TellsGround, TellsCheck, HasVerdict, IsRefused, IsLimited, IsGrounded, IsAccepted, IsRejected, MayBeTooLong, PutsProblem, PutsReport}
+use Rattle.plan_app.specs.Verdicts.{sources_of, TellsTexts, TellsGround, TellsCheck, HasVerdict, IsRefused, IsLimited, IsGrounded, IsAccepted, IsRejected, MayBeTooLong, PutsRefusal, PutsProblem, PutsReport}
 use Rattle.plan_app.specs.Putting.{PutsAnswers, PutsPart, IsSaid, SaysPut, SaysCutShort}
 use Rattle.plan_app.proofs.Exchanges.{prefix_behind, take_rose}
-use Rattle.plan_app.proofs.Verdict.{IsLongFor, Leads, SaysOfTexts, said_by_status, leads, service_led, answers_words, service_words, unwritten, text_verdict, ground_verdict, ground_reported, check_verdict, check_reported}
+use Rattle.plan_app.proofs.Named.{names_balanced, names_enclose, names_end}
+use Rattle.plan_app.proofs.Verdict.{IsLongFor, Leads, SaysOfTexts, said_by_status, leads, led_refused, service_led, answers_words, service_texts, service_words, unwritten, text_verdict, ground_verdict, ground_reported, check_verdict, check_reported}
 
 -- ---- endings of requests
 
@@ -280,6 +281,13 @@ module _ {S : Type 0} {held : S → List ℕ → Told} {reads writes : S → ℕ
     enough_memory = λ e. omega (arith, e, zero);
   }
 
+  six_is_a_verdict : status ≡ 6 → HasVerdict status
+  six_is_a_verdict six = record {
+    no_read_fault = λ e. omega (arith, e, six);
+    no_write_fault = λ e. omega (arith, e, six);
+    enough_memory = λ e. omega (arith, e, six);
+  }
+
   eight_is_a_verdict : status ≡ 8 → HasVerdict status
   eight_is_a_verdict eight = record {
     no_read_fault = λ e. omega (arith, e, eight);
@@ -296,6 +304,30 @@ module _ {S : Type 0} {held : S → List ℕ → Told} {reads writes : S → ℕ
 
       pub refused_exactly : HasVerdict status → (status ≡ 6) ↔ IsRefused s t
       refused_exactly verdict = exactly 6 (IsRefused s t) (says verdict).refused
+
+      -- no server was started
+      nothing_before : status ≡ 6 → ends.answers ≡ []
+      nothing_before six = elim (request_ends tells.request tells.asks) [
+        | inl (silent, may_end) ↦ silent.nothing_put
+        | inr service ↦
+            absurd (service_texts held reads writes old new x tells.request ends.ending service (sym ends.status_is ∙ six))
+      ]
+
+      pub refusal_put : TextsAreRefusedSo → (before now : Option (List ℕ)) → status ≡ 6 → Appends before now text → PutsRefusal s t before now
+      refusal_put refused before now six put =
+          let found = led s tells.request tells.asks tells.sources (six_is_a_verdict six) in
+          let said = led_refused stops s t (IsLongFor tells.request) found.0 ends.ending (told (held old) s t tells.texts found.0 found.1)
+          found.2 (sym ends.status_is ∙ six) in
+          record {
+            code = said.code;
+            file = said.file;
+            line = said.line;
+            refused = said.refused;
+            why = refused s t said.code said.file said.line said.refused;
+            put = subst (Appends before now)
+                (ends.text_is ∙ ap (λ answers. answers ++ ending_text ends.ending) (nothing_before six)
+                ∙ ap (λ (e : Ending). ending_text e) said.says) put;
+          }
 
       pub limited_so : HasVerdict status → IsLimited s t → status ≡ 8
       limited_so verdict limited = ends.status_is ∙ (says verdict).limited limited
@@ -338,9 +370,9 @@ module _ {S : Type 0} {held : S → List ℕ → Told} {reads writes : S → ℕ
           (answers_of (to_check s tells.name) tells.asks (λ none. none) verdict).1 (verdict_of verdict)).1
 
       -- the report that was put, and what the certificate says of the task
-      pub report_put : ProblemStands → AreTerms s → BalanceIsCarried → TaskIsEnclosed → TaskPolicyEnds → ((task : Task) → WellFormedSums task)
+      pub report_put : ProblemStands → AreTerms s → NamesAreCarried → BalanceIsCarried → TaskIsEnclosed → TaskPolicyEnds → ((task : Task) → WellFormedSums task)
           → (before now : Option (List ℕ)) → status ≡ 0 → Appends before now text → PutsReport s t f before now
-      report_put stands are carried enclosed ending sums before now zero put =
+      report_put stands are names carried enclosed ending sums before now zero put =
           let put_so = answers_of (to_check s tells.name) tells.asks (λ none. none) (zero_is_a_verdict zero) in
           let found = check_reported (held old) told stops s t tells.texts law balance f tells.name tells.certificate ends.ending
           put_so.1 (sym ends.status_is ∙ zero) in
@@ -353,7 +385,8 @@ module _ {S : Type 0} {held : S → List ℕ → Told} {reads writes : S → ℕ
             balanced_for = found.4;
             put = subst (Appends before now) (put_so.0 ∙ ap ending_text found.5) put;
             of_task = of_task;
-            balanced = (carried found.0 of_task.task of_task.charges of_task.stands found.1).0 found.4.balanced;
-            encloses = enclosed found.0 of_task.task of_task.charges of_task.stands found.1 found.4;
-            ends = ending found.0 of_task.task of_task.charges of_task.stands (sums of_task.task of_task.well_formed) found.1 found.4;
+            balanced = names_balanced names found.0 of_task.task of_task.charges of_task.stands found.1 found.4 carried;
+            encloses = names_enclose names found.0 of_task.task of_task.charges of_task.stands found.1 found.4 enclosed;
+            ends = names_end names found.0 of_task.task of_task.charges of_task.stands found.1 found.4 ending
+                (sums of_task.task of_task.well_formed);
           }

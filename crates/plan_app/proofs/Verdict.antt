@@ -14,6 +14,7 @@ use Rattle.certificate_check.specs.Codes.{number_of, row_of}
 use Rattle.certificate_check.specs.Claims.{IsBalancedFor}
 use Rattle.certificate_check.specs.Laws.{AcceptedIsBalanced}
 use Rattle.certificate_check.specs.Verdicts.{IsVerdict}
+use Rattle.ppddl_model.specs.declared.refusal.TextCode.{TextCode}
 use Rattle.ground_model.specs.Ground.{Ground}
 use Rattle.plan_request.specs.Asked.{Sources, Solving, Asked, to_solve, to_check, to_serve, to_ground, to_bench}
 use Rattle.plan_request.specs.declared.effort.Effort.{Effort}
@@ -342,6 +343,29 @@ module _ (stops : TextsStopSo) (s : Sources) (t : Texts) where
   led_verdict long (Err stop) e is says =
       subst (λ e. SaysOfTexts s t long (ending_status e)) says (stop_verdict long stop is (stops s t stop is))
 
+  -- the refusal of texts that an ending says
+  pub record SaysRefusal (e : Ending) : Type 0 where
+    pub code : TextCode
+    pub file : ℕ
+    pub line : ℕ
+    pub refused : problem_of s t ≡ Err (Refused code file line)
+    pub says : e ≡ Err (Refused code file line)
+
+  stop_refused : (stop : Stop) → problem_of s t ≡ Err stop → IsOfTexts stop → status_of stop ≡ 6 → SaysRefusal (Err stop)
+  stop_refused (Refused code file line) is so six = record { code = code; file = file; line = line; refused = is; says = refl }
+  stop_refused (Limit code most) is so six = absurd (omega (arith, six))
+  stop_refused BadWords is so six = absurd so
+  stop_refused ReadFailed is so six = absurd so
+  stop_refused WriteFailed is so six = absurd so
+  stop_refused NoMemory is so six = absurd so
+  stop_refused (NotAccepted code row) is so six = absurd so
+
+  pub led_refused : (long : Ground → Type 0) (r : Result Ground Stop) (e : Ending) → problem_of s t ≡ r → Leads long r e → ending_status e ≡ 6
+      → SaysRefusal e
+  led_refused long (Ok g) e is of six = absurd (of.not_refused six)
+  led_refused long (Err stop) e is says six =
+      subst SaysRefusal says (stop_refused stop is (stops s t stop is) (ap ending_status says ∙ six))
+
 -- ---- with a server or without
 
 module _ {S : Type 0} (held : S → List ℕ → Told) (reads writes : S → ℕ) (old new : S) (x : Exchange) where
@@ -361,6 +385,13 @@ module _ {S : Type 0} (held : S → List ℕ → Told) (reads writes : S → ℕ
   service_led s (to_check y name) is e service = absurd service
   service_led s (to_ground y) is e service = absurd service
   service_led s (to_bench places seed) is e service = absurd service
+
+  pub service_texts : (q : Asked) (e : Ending) → ServiceFor held reads writes old new x q e → ending_status e ≢ 6
+  service_texts (to_serve s) e service = (service_leads s e service).not_refused
+  service_texts (to_solve s) e service = absurd service
+  service_texts (to_check s name) e service = absurd service
+  service_texts (to_ground s) e service = absurd service
+  service_texts (to_bench places seed) e service = absurd service
 
   pub service_words : (q : Asked) (e : Ending) → ServiceFor held reads writes old new x q e → ending_status e ≢ 2
   service_words (to_serve s) e service = (service_leads s e service).not_words

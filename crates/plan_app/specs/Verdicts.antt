@@ -13,9 +13,14 @@
 --     MayBeTooLong words t          they ask to solve it, with a server or without, and the text of a certificate that may be found is above its limit
 --     IsDecoded f c                 f is the text of the certificate c, of at most its version's greatest length
 --     IsAccepted, IsRejected s t f  f is, or is not, the text of a certificate that is balanced for the ground problem of the texts
+--     PutsRefusal s t old new       the line of the refusal was put: the texts spell no task, and this is their first fault, or an action
+--                                   of the task that they spell may cost nothing, or it has no penalty
 --     PutsProblem s t old new       the report of the ground problem was put, which stands for the task of the texts
+--     PolicyEnds task charges c     from each state, n times the least cost of a step times the chance that the acts of the certificate
+--                                   go on after n steps is at most the upper value of the state
 --     PutsReport s t f old new      such a certificate was accepted, and its report put: for the task of the texts it encloses the cost,
 --                                   and its policy ends
+--     EndsSoon s t f                the policy of the certificate of these bytes ends, at the task that the texts spell
 use Rattle.std.specs.Prelude.{◌≡◌, ◌≢◌, ◌⊎◌, ℕ, ◌*◌, ◌^◌, ◌≤◌, List, [], ◌∷◌, length, Option, Some, None, Ok, Err, Contains}
 use Rattle.std.specs.Borrow.{Bor}
 use Rattle.std.specs.Io.KnownBytes.{Appends}
@@ -27,9 +32,10 @@ use Rattle.decision_process.specs.Policies.{still}
 use Rattle.decision_process.specs.Readings.{high, act, IsBalancedCertificate}
 use Rattle.ppddl_model.specs.declared.refusal.TextCode.{TextCode}
 use Rattle.ppddl_model.specs.State.{State, same_state}
-use Rattle.ppddl_model.specs.Steps.{process, starts, start_den, step_den, least_step_cost}
+use Rattle.ppddl_model.specs.declared.tree.Task.{Task}
+use Rattle.ppddl_model.specs.Steps.{Charges, process, starts, start_den, step_den, least_step_cost}
 use Rattle.ground_model.specs.Ground.{Ground}
-use Rattle.plan_app.specs.certificates.Carried.{task_certificate}
+use Rattle.plan_app.specs.certificates.Named.{names_certificate}
 use Rattle.plan_request.specs.Asked.{Sources, Solving, Asked, to_solve, to_check, to_serve, to_ground, to_bench}
 use Rattle.plan_report.specs.Reports.{accepted_text, ground_text}
 use Rattle.plan_search.specs.Answers.{IsTooLong}
@@ -38,7 +44,8 @@ use Rattle.plan_request.specs.declared.stop.Stop.{Stop}
 use Rattle.plan_request.specs.declared.stop.Stop.TheVariants.{Refused, Limit}
 use Rattle.plan_sources.specs.declared.texts.Texts.{Texts}
 use Rattle.plan_sources.specs.Problems.{problem_of}
-use Rattle.plan_sources.specs.Laws.{HoldsTexts, StandsForTexts}
+use Rattle.plan_request.specs.stop.Stop.{line_of}
+use Rattle.plan_sources.specs.Laws.{HoldsTexts, SpellsNone, IsNotCharged, StandsForTexts}
 use Rattle.plan_app.specs.Asking.{Asks, AsksToSearch}
 
 -- ---- what is asked and told
@@ -105,6 +112,14 @@ module _ (s : Sources) (t : Texts) where
   abbrev pub IsGrounded : Type 0
   IsGrounded = (g : Ground) × (problem_of s t ≡ Ok g)
 
+  pub record PutsRefusal (old new : Option (List ℕ)) : Type 0 where
+    pub code : TextCode
+    pub file : ℕ
+    pub line : ℕ
+    pub refused : problem_of s t ≡ Err (Refused code file line)
+    pub why : SpellsNone t (Refused code file line) ⊎ IsNotCharged s t (Refused code file line)
+    pub put : Appends old new (line_of (Refused code file line))
+
   pub record PutsProblem (old new : Option (List ℕ)) : Type 0 where
     pub g : Ground
     pub problem : problem_of s t ≡ Ok g
@@ -120,6 +135,12 @@ pub record MayBeTooLong (words : List (Bor (List ℕ))) (t : Texts) : Type 0 whe
   pub too_long : IsTooLong g solving.effort solving.sizes stop
 
 -- ---- certificates
+
+-- the end is a goal or giving up
+abbrev pub PolicyEnds : Task → Charges → Content → Type 0
+PolicyEnds task charges c = (n : ℕ) (x : State)
+    → n * least_step_cost task charges * still (process task charges) (act same_state (names_certificate task c).rows) n x
+    ≤ high (process task charges) same_state (names_certificate task c).rows x * step_den task ^ n
 
 pub record IsDecoded (f : List ℕ) (c : Content) : Type 0 where
   pub text : IsTextOf f c
@@ -142,10 +163,14 @@ module _ (s : Sources) (t : Texts) (f : List ℕ) where
     -- of the task
     pub of_task : StandsForTexts s t g
     pub balanced : IsBalancedCertificate (process of_task.task of_task.charges) same_state
-        (starts of_task.task) (start_den of_task.task) (task_certificate g of_task.task c)
+        (starts of_task.task) (start_den of_task.task) (names_certificate of_task.task c)
     pub encloses : Encloses (process of_task.task of_task.charges) (starts of_task.task) (start_den of_task.task)
-        c.lower c.upper (act same_state (task_certificate g of_task.task c).rows)
-    pub ends : (n : ℕ) (x : State)
-        → n * least_step_cost of_task.task of_task.charges
-        * still (process of_task.task of_task.charges) (act same_state (task_certificate g of_task.task c).rows) n x
-        ≤ high (process of_task.task of_task.charges) same_state (task_certificate g of_task.task c).rows x * step_den of_task.task ^ n
+        c.lower c.upper (act same_state (names_certificate of_task.task c).rows)
+    pub ends : PolicyEnds of_task.task of_task.charges c
+
+  pub record EndsSoon : Type 0 where
+    pub g : Ground
+    pub c : Content
+    pub decoded : IsDecoded f c
+    pub of_task : StandsForTexts s t g
+    pub ends : PolicyEnds of_task.task of_task.charges c

@@ -16,7 +16,8 @@ ghost use Rattle.plan_app.specs.Endings.{Lacks, Faults, MayEndAs, LeavesForWords
 ghost use Rattle.plan_app.specs.Verdicts.{TellsTexts, TellsGround, TellsCheck, TellsSearch};
 ghost use Rattle.plan_app.specs.Verdicts.{HasVerdict, HasReport, IsAnswerTo};
 ghost use Rattle.plan_app.specs.Verdicts.{IsRefused, IsLimited, IsGrounded, IsAccepted, IsRejected};
-ghost use Rattle.plan_app.specs.Verdicts.{MayBeTooLong, PutsProblem, PutsReport};
+ghost use Rattle.plan_app.specs.Verdicts.{MayBeTooLong, PutsRefusal, PutsProblem, PutsReport};
+ghost use Rattle.plan_app.specs.Verdicts.{EndsSoon};
 ghost use Rattle.plan_app.specs.Solutions.{PutsSolution, PutsService, PutsMeasure};
 ghost use Rattle.plan_app.specs.Putting.{PutsPart, SaysPut, SaysCutShort};
 
@@ -24,7 +25,9 @@ use crate::certificates::task_certificate_laws;
 use crate::commands::report_of;
 use certificate::text_laws;
 use certificate_check::check_laws;
-use ground_meaning::{same_level_laws, same_value_laws, task_progress_laws};
+use ground_meaning::{
+    same_cost_laws, same_level_laws, same_value_laws, stands_laws, task_progress_laws,
+};
 use plan_request::{NO_MEMORY, Report, Stop, WRITE_FAILED, request_laws};
 use plan_sources::source_laws;
 use ppddl_model::task_laws;
@@ -65,6 +68,8 @@ pub fn run<R: Threads + Sync, S: Shelf, I: Source + Send, O: Sink + Send, G: Gat
         → (result ≡ BAD_WORDS) ↔ AsksNothing words.now }
     ensures refused { (s : Sources) (t : Texts) → TellsTexts words.now (S.held shelf.old) s t
         → HasVerdict result → (result ≡ REFUSED) ↔ IsRefused s t }
+    ensures refuses { (s : Sources) (t : Texts) → TellsTexts words.now (S.held shelf.old) s t
+        → result ≡ REFUSED → PutsRefusal s t (O.taken out.old) (O.taken out.new) }
     ensures limited { (s : Sources) (t : Texts) → TellsTexts words.now (S.held shelf.old) s t
         → HasVerdict result → IsLimited s t → result ≡ LIMIT }
     ensures limited_only { (s : Sources) (t : Texts) → TellsTexts words.now (S.held shelf.old) s t
@@ -82,10 +87,15 @@ pub fn run<R: Threads + Sync, S: Shelf, I: Source + Send, O: Sink + Send, G: Gat
     ensures stands { (s : Sources) (t : Texts) → TellsGround words.now (S.held shelf.old) s t
         → result ≡ DONE → PutsProblem s t (O.taken out.old) (O.taken out.new) }
 
-    // The certificate that was accepted encloses the cost of the task, and its policy ends.
+    // The certificate that was accepted encloses the cost of the task.
     ensures encloses { (s : Sources) (t : Texts) (f : List ℕ)
         → TellsCheck words.now (S.held shelf.old) s t f
         → result ≡ DONE → PutsReport s t f (O.taken out.old) (O.taken out.new) }
+
+    // Its policy ends: n steps are made with a chance of at most the upper value over n times the least cost of
+    // a step.
+    ensures ends_soon { (s : Sources) (t : Texts) (f : List ℕ)
+        → TellsCheck words.now (S.held shelf.old) s t f → result ≡ DONE → EndsSoon s t f }
 
     // The certificate that was written is one that `check` accepts. It is as narrow as plain rounded iteration
     // makes the interval in so many rounds, and wider than was asked for only where that is too.
@@ -137,6 +147,8 @@ pub fn run<R: Threads + Sync, S: Shelf, I: Source + Send, O: Sink + Send, G: Gat
     text_laws();
     check_laws();
     task_laws();
+    stands_laws();
+    same_cost_laws();
     same_value_laws();
     same_level_laws();
     task_certificate_laws();

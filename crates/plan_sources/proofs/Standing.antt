@@ -6,6 +6,7 @@ use Rattle.ppddl_model.specs.declared.tree.Task.{Task}
 use Rattle.ground_model.specs.Ground.{Ground}
 use Rattle.ground_meaning.specs.refusals.Laws.{GroundedStands, AreListsOf, HaveForm, NamesKeepTheirForm}
 use Rattle.ground_meaning.specs.refusals.Limits.{grounded}
+use Rattle.ppddl_grammar.specs.texts.Laws.{TaskIsDerived}
 use Rattle.ppddl_grammar.specs.well_formed.Laws.{TasksAreWellFormed, TasksHaveLowerNames}
 use Rattle.ppddl_grammar.specs.well_formed.Names.{HasLowerNames}
 use Rattle.plan_request.specs.Asked.{Sources}
@@ -38,8 +39,8 @@ texts_read s t g is =
 have_form : (task : Task) → HasLowerNames task → HaveForm is_lower_name task
 have_form task lower = record { objects = lower.declared.objects; predicates = lower.declared.predicates; actions = lower.actions }
 
-pub problem_stands : TasksAreWellFormed → TasksHaveLowerNames → GroundedStands → NamesKeepTheirForm → ProblemStands
-problem_stands well_formed lower law spelled s t g are is =
+pub problem_stands : TaskIsDerived → TasksAreWellFormed → TasksHaveLowerNames → GroundedStands → NamesKeepTheirForm → ProblemStands
+problem_stands derived well_formed lower law spelled s t g are is =
     let read = problem_read s t g (texts_read s t g is) in
     let task_is = task_read t read.0 read.1 in
     let fits = well_formed t.first t.second read.0 task_is in
@@ -47,6 +48,7 @@ problem_stands well_formed lower law spelled s t g are is =
     record {
       task = read.0;
       charges = made.0;
+      reads = derived t.first t.second read.0 task_is;
       task_is = task_is;
       well_formed = fits;
       charged = made.1;

@@ -1,11 +1,12 @@
 -- The laws of certificates of tasks, as statements.
 --     IsCarried            row by row, a certificate of the ground problem and that of the task say the same
+--     NamesAreCarried      what a certificate that is balanced for the ground problem says of the task is what it says by its names
 --     BalanceIsCarried     the one is balanced exactly where the other is
 --     TaskIsEnclosed       no finite plans of the task cost less than the lower end of a certificate that is balanced for the ground
 --                          problem, and the first n steps of its acts cost at most the upper end, for every n
 --     TaskPolicyEnds       from each state, n times the least step cost of the task times the chance that its acts go on after n steps
 --                          is at most the state's upper value, where the chances of the task sum to at most 1
-use Rattle.std.specs.Prelude.{◌↔◌, ℕ, ◌*◌, ◌^◌, ◌≤◌}
+use Rattle.std.specs.Prelude.{◌≡◌, ◌↔◌, ℕ, ◌*◌, ◌^◌, ◌≤◌}
 use Rattle.certificate.specs.Content.{Content}
 use Rattle.decision_process.specs.Enclosing.{Encloses}
 use Rattle.decision_process.specs.Policies.{still}
@@ -21,10 +22,15 @@ use Rattle.ground_model.specs.Steps.{ground_process, ground_starts}
 use Rattle.ground_meaning.specs.stands.Stands.{by_atoms, IsGroundOf}
 use Rattle.certificate_check.specs.Claims.{ground_certificate, IsBalancedFor}
 use Rattle.plan_app.specs.certificates.Carried.{task_certificate}
+use Rattle.plan_app.specs.certificates.Named.{names_certificate}
 
 abbrev pub IsCarried : Type 0
 IsCarried = (g : Ground) (task : Task) (charges : Charges) → IsGroundOf g task charges → (c : Content)
     → IsCertificateOf (by_atoms g task) (ground_certificate g c) (task_certificate g task c)
+
+abbrev pub NamesAreCarried : Type 0
+NamesAreCarried = (g : Ground) (task : Task) (charges : Charges) → IsGroundOf g task charges → (c : Content)
+    → IsBalancedFor g c → task_certificate g task c ≡ names_certificate task c
 
 abbrev pub BalanceIsCarried : Type 0
 BalanceIsCarried = (g : Ground) (task : Task) (charges : Charges) → IsGroundOf g task charges → (c : Content)

@@ -21,6 +21,7 @@ use Rattle.plan_app.proofs.Statuses.{
   request_ends,
   bad_words_exactly,
   refused_exactly,
+  refusal_put,
   limited_so,
   limited_by,
   grounded_exactly,
@@ -75,6 +76,12 @@ pub returns-clause-refused : goal.returns-clause-refused
 returns-clause-refused g c = λ s t tells verdict.
     refused_exactly (ended_at g c verdict.no_write_fault) c.source_laws.ensures.told c.source_laws.ensures.stops s t tells verdict
 
+pub returns-clause-refuses : goal.returns-clause-refuses
+returns-clause-refuses g c = λ s t tells six.
+    let written : c.put_ending.result ≢ WRITE_FAILED = λ four. omega (arith, six, four) in
+    refusal_put (ended_at g c written) c.source_laws.ensures.told c.source_laws.ensures.stops s t tells c.source_laws.ensures.refused
+    _ _ six (put_at g c written)
+
 pub returns-clause-limited : goal.returns-clause-limited
 returns-clause-limited g c = λ s t tells verdict limited.
     limited_so (ended_at g c verdict.no_write_fault) c.source_laws.ensures.told c.source_laws.ensures.stops s t tells verdict limited
@@ -109,14 +116,27 @@ returns-clause-encloses g c = λ s t f tells zero.
     report_put (ended_at g c written) c.source_laws.ensures.told c.source_laws.ensures.stops s t
     c.text_laws.ensures.reads c.check_laws.ensures.accepted f tells
     c.source_laws.ensures.stands (check_terms c.request_laws.ensures c.args.words.now s tells.name tells.asks)
-    c.task_certificate_laws.ensures.balance c.task_certificate_laws.ensures.encloses c.task_certificate_laws.ensures.ends
+    c.task_certificate_laws.ensures.names c.task_certificate_laws.ensures.balance c.task_certificate_laws.ensures.encloses c.task_certificate_laws.ensures.ends
     c.task_laws.ensures.well_formed _ _ zero (put_at g c written)
+
+pub returns-clause-ends_soon : goal.returns-clause-ends_soon
+returns-clause-ends_soon g c = λ s t f tells zero.
+    let report = returns-clause-encloses g c s t f tells zero in
+    record {
+      g = report.g;
+      c = report.c;
+      decoded = report.decoded;
+      of_task = report.of_task;
+      ends = report.ends;
+    }
 
 pub returns-clause-solves : goal.returns-clause-solves
 returns-clause-solves g c = λ s t tells has.
     let written : c.put_ending.result ≢ WRITE_FAILED = (report_is_a_verdict c.put_ending.result has).no_write_fault in
-    solution_put c.source_laws.ensures.stands c.same_level_laws.ensures.depth c.same_value_laws.ensures.plain
-    c.task_certificate_laws.ensures.balance c.task_certificate_laws.ensures.encloses
+    solution_put c.source_laws.ensures.stands c.stands_laws.ensures.back c.same_level_laws.ensures.near c.same_level_laws.ensures.near_found
+    c.stands_laws.ensures.process c.same_cost_laws.ensures.least
+    c.same_level_laws.ensures.depth c.same_value_laws.ensures.plain
+    c.task_certificate_laws.ensures.names c.task_certificate_laws.ensures.balance c.task_certificate_laws.ensures.encloses c.task_certificate_laws.ensures.ends
     c.task_progress_laws.ensures.starts c.task_laws.ensures.well_formed c.task_laws.ensures.proper c.task_laws.ensures.proper_starts
     (ended_at g c written) has c.source_laws.ensures.stops c.source_laws.ensures.told s t
     (solve_range c.request_laws.ensures c.args.words.now s tells.asks).terms tells _ _ (put_at g c written)
@@ -124,8 +144,10 @@ returns-clause-solves g c = λ s t tells has.
 pub returns-clause-serves : goal.returns-clause-serves
 returns-clause-serves g c = λ s t tells has.
     let written : c.put_ending.result ≢ WRITE_FAILED = (report_is_a_verdict c.put_ending.result has).no_write_fault in
-    service_put c.source_laws.ensures.stands c.same_level_laws.ensures.depth c.same_value_laws.ensures.plain
-    c.task_certificate_laws.ensures.balance c.task_certificate_laws.ensures.encloses
+    service_put c.source_laws.ensures.stands c.stands_laws.ensures.back c.same_level_laws.ensures.near c.same_level_laws.ensures.near_found
+    c.stands_laws.ensures.process c.same_cost_laws.ensures.least
+    c.same_level_laws.ensures.depth c.same_value_laws.ensures.plain
+    c.task_certificate_laws.ensures.names c.task_certificate_laws.ensures.balance c.task_certificate_laws.ensures.encloses c.task_certificate_laws.ensures.ends
     c.task_progress_laws.ensures.starts c.task_laws.ensures.well_formed c.task_laws.ensures.proper c.task_laws.ensures.proper_starts
     (ended_at g c written) has c.source_laws.ensures.stops c.source_laws.ensures.told s t
     (serve_range c.request_laws.ensures c.args.words.now s tells.asks).terms tells _ _ (put_at g c written)
@@ -133,8 +155,10 @@ returns-clause-serves g c = λ s t tells has.
 pub returns-clause-measures : goal.returns-clause-measures
 returns-clause-measures g c = λ places seed asks has.
     let written : c.put_ending.result ≢ WRITE_FAILED = (report_is_a_verdict c.put_ending.result has).no_write_fault in
-    measure_put c.source_laws.ensures.stands c.same_level_laws.ensures.depth c.same_value_laws.ensures.plain
-    c.task_certificate_laws.ensures.balance c.task_certificate_laws.ensures.encloses
+    measure_put c.source_laws.ensures.stands c.stands_laws.ensures.back c.same_level_laws.ensures.near c.same_level_laws.ensures.near_found
+    c.stands_laws.ensures.process c.same_cost_laws.ensures.least
+    c.same_level_laws.ensures.depth c.same_value_laws.ensures.plain
+    c.task_certificate_laws.ensures.names c.task_certificate_laws.ensures.balance c.task_certificate_laws.ensures.encloses c.task_certificate_laws.ensures.ends
     c.task_progress_laws.ensures.starts c.task_laws.ensures.well_formed c.task_laws.ensures.proper c.task_laws.ensures.proper_starts
     (ended_at g c written) has c.source_laws.ensures.stops places seed asks _ _ (put_at g c written)
 
