@@ -81,6 +81,9 @@ fn solve_and_read<R: Threads + Sync>(
     requires sizes { AreSizes sizes.now }
     requires deep { 1 ≤ effort.now.depth }
 {
+    let Some(start) = problem.starts().first() else {
+        return Ok(None);
+    };
     let Opening {
         words,
         mut pass,
@@ -98,13 +101,14 @@ fn solve_and_read<R: Threads + Sync>(
         sizes.workers,
         effort.depth,
     )?;
-    let Some(start) = problem.starts().first() else {
-        return Ok(None);
+    let found = match find_id(&words, &mut reading, &start.state) {
+        None => None,
+        Some(id) => {
+            let read = read_beside(rt, &words, &mut crew, &extent, effort, &mut reading, id);
+            Some(read)
+        }
     };
-    let Some(id) = find_id(&words, &mut reading, &start.state) else {
-        return Ok(None);
-    };
-    Ok(Some(read_beside(rt, &words, &mut crew, &extent, effort, &mut reading, id)))
+    Ok(found)
 }
 
 /// Four workers make trials of one turn, so that all narrow the numbers of the one state that is no goal.

@@ -113,6 +113,18 @@ fn trials_end_where_their_choices_say(rt: HostRuntime) -> Result<(), Fail> {
     Ok(())
 }
 
+/// What is left of the draw at a place of a path: of the start, or of a turn.
+fn rest_of(path: &Path, place: usize) -> Option<u128> {
+    if place == 0 {
+        return path.start().drawn.map(|drawn| drawn.rest);
+    }
+    let turns = path.turns();
+    if place > turns.len() {
+        return None;
+    }
+    turns[place - 1].drawn.map(|drawn| drawn.rest)
+}
+
 /// What is left of a draw of a trial: of the first one by the start, of each further one by a turn. A step leads back to the
 /// start and costs nothing, so that all are taken modulo the same total.
 fn rest_at(
@@ -129,14 +141,7 @@ fn rest_at(
     let mut bounds = one_way(alloc, MOST_NUMBER, way, MOST_NUMBER, MOST_NUMBER)?;
     let mut path = Path::make(alloc, 6)?;
     trial(&mut bounds, number, seed, 6, 10, &mut path);
-    if place == 0 {
-        return Ok(path.start().drawn.map(|drawn| drawn.rest));
-    }
-    let turns = path.turns();
-    if place > turns.len() {
-        return Ok(None);
-    }
-    Ok(turns[place - 1].drawn.map(|drawn| drawn.rest))
+    Ok(rest_of(&path, place))
 }
 
 /// The first four draws are the first 16 words of ChaCha8 with a key of zeros, by the test vectors of Strombergson's

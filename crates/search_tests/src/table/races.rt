@@ -112,7 +112,40 @@ fn differ(alloc: Global, ids: &[u32]) -> Result<bool, AllocError> {
     Ok(true)
 }
 
-/// Lets so many walkers intern all sets of switches at once.
+/// Lets so many walkers intern all sets of switches at once, on a table whose rows are not read yet.
+fn race<R: Threads + Sync>(
+    rt: &R,
+    alloc: Global,
+    words: &Words<'_>,
+    pass: &mut Pass,
+    count: u32,
+) -> Result<Race, AllocError>
+    requires some { 0 < count }
+    requires here { IsOf words.now pass.old }
+    requires free { pass.old.view.spare ≡ None }
+    requires rights { pass.old.view.rights ≡ count }
+    ensures here { OnOk result (IsOf words.now pass.new) }
+{
+    let mut walkers = make_walkers(alloc, words, pass, count)?;
+    walk_all(rt, words, walkers.as_mut_slice());
+    let given_out = load_count(words, pass);
+    let spares = walkers.iter().filter(|w| w.pass.holds_spare()).count();
+    let Some(first) = walkers.as_slice().first() else {
+        return Err(AllocError);
+    };
+    let ids = first.ids.as_slice();
+    let agree = have_ids(walkers.as_slice(), ids);
+    let differ = differ(alloc, ids)?;
+    Ok(Race {
+        given_out,
+        spares,
+        rows: 0,
+        agree,
+        differ,
+    })
+}
+
+/// What so many walkers leave that intern all sets of switches at once.
 fn run_race<R: Threads + Sync>(
     rt: &R,
     alloc: Global,
@@ -133,26 +166,12 @@ fn run_race<R: Threads + Sync>(
         index: _,
         near: _,
     } = open(alloc, problem, &sizes)?;
-    let mut walkers = make_walkers(alloc, &words, &mut pass, count)?;
-    walk_all(rt, &words, walkers.as_mut_slice());
-    let given_out = load_count(&words, &mut pass);
-    let spares = walkers.iter().filter(|w| w.pass.holds_spare()).count();
-    let Some(first) = walkers.as_slice().first() else {
-        return Err(AllocError);
-    };
-    let ids = first.ids.as_slice();
-    let agree = have_ids(walkers.as_slice(), ids);
-    let differ = differ(alloc, ids)?;
+    let mut left = race(rt, alloc, &words, &mut pass, count)?;
     let Ok(image) = words.close(alloc, pass) else {
         return Err(AllocError);
     };
-    Ok(Race {
-        given_out,
-        spares,
-        rows: image.rows.as_slice().len(),
-        agree,
-        differ,
-    })
+    left.rows = image.rows.as_slice().len();
+    Ok(left)
 }
 
 /// Two and four threads intern all sets at once, each in an order of its own.

@@ -159,6 +159,10 @@ fn who_loses_a_race_keeps_its_spare(rt: HostRuntime) -> Result<(), Fail> {
         states: 4_096,
         sweep_states: 64,
     };
+    let start = state_of(alloc, &[3])?;
+    let mut one = state_of(alloc, &[0])?;
+    let mut other = state_of(alloc, &[0])?;
+    let mut next = state_of(alloc, &[0])?;
     let Opening {
         words,
         pass: mut first,
@@ -166,10 +170,6 @@ fn who_loses_a_race_keeps_its_spare(rt: HostRuntime) -> Result<(), Fail> {
         index: _,
         near: _,
     } = open(alloc, &problem, &sizes)?;
-    let start = state_of(alloc, &[3])?;
-    let mut one = state_of(alloc, &[0])?;
-    let mut other = state_of(alloc, &[0])?;
-    let mut next = state_of(alloc, &[0])?;
     let mut second = part(&words, &mut first);
     let lost = lose(
         &words,
@@ -179,9 +179,10 @@ fn who_loses_a_race_keeps_its_spare(rt: HostRuntime) -> Result<(), Fail> {
         &mut one,
         &mut other,
     );
-    let Some(spare) = lost else {
-        return Err(Fail::new("no race was lost"));
+    let kept = match lost {
+        None => false,
+        Some(spare) => spend(&words, &mut second, &start, &other, &mut next, spare),
     };
-    assert!(rt; spend(&words, &mut second, &start, &other, &mut next, spare));
+    assert!(rt; kept);
     Ok(())
 }
