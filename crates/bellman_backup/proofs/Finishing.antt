@@ -31,7 +31,7 @@ use Rattle.bellman_backup.specs.declared.sums.Sums.{Sums}
 use Rattle.bellman_backup.specs.declared.best.Best.{Best}
 use Rattle.bellman_backup.specs.Races.{has_all}
 use Rattle.bellman_backup.specs.Readings.{Reading, loads_in}
-use Rattle.bellman_backup.specs.Candidates.{Found, act_word, least_low, least_word, IsAnswer}
+use Rattle.bellman_backup.specs.Candidates.{Found, codes_of, readings_of, act_word, least_low, least_word, IsAnswer}
 use Rattle.bellman_backup.specs.Backups.{Keeps, IsStateOf, IsFound, IsBackedUp, HasBackedUp, Narrows}
 use Rattle.bellman_backup.specs.Totals.{HasReadAction}
 use Rattle.bellman_backup.specs.Choosing.{IsReadAction, HasChosen}
@@ -40,6 +40,7 @@ use Rattle.bellman_backup.proofs.Keeping.{keeps_again, keeps_count, keeps_raised
 use Rattle.bellman_backup.proofs.NextRead.{first_within_quit, seen_within_first, grows_all}
 use Rattle.bellman_backup.proofs.Choosers.{found_stays, chosen_more, are_found}
 use Rattle.bellman_backup.proofs.Narrowing.{can_raise, upper_follows, lower_is_backed, upper_is_backed, goal_is_backed}
+use Rattle.bellman_backup.proofs.AllOpen.{speak_of_all}
 use Rattle.bellman_backup.proofs.Answering.{no_choices, are_choices, are_known}
 use Rattle.bellman_backup.proofs.Stepping.{problem_of}
 
@@ -132,26 +133,19 @@ rests g v w id s last state on loads is = (
   ((λ _. (loads, is)), λ off. absurd (both_ways ((ground_process g).goal s) off on)),
 )
 
-pub has_backed_up : (g : Ground) (v w : View) (id : ℕ) (s : State) (last : Last) (found : List Found) → IsStateOf v w id s → (ground_process g).goal s ≡ false
-    → AreEnough g s (map (λ (f : Found). f.code) found) → All (IsFound g v w s) found
-    → w.loads ≡ loads_in (flat_map (λ (f : Found). f.readings) found) ++ v.loads → IsAnswer g.penalty s found last
-    → least_low g.penalty s found ≤ noted_lower w id → noted_upper w id ≤ least_word g.penalty s found → HasBackedUp g v w id last
-has_backed_up g v w id s last found state off enough each loads answer raised sunk = (
-  s,
-  state,
-  (
-    (λ on. absurd (both_ways ((ground_process g).goal s) off on)),
-    λ _. (
-      found,
-      record {
-        readings = record { codes = enough; each = each; loads = loads };
-        answer = answer;
-        raised = raised;
-        sunk = sunk;
-      },
-    ),
-  ),
-)
+pub has_backed_up : (g : Ground) (v w : View) (id : ℕ) (s : State) (last : Last) (loaded : List Found) → IsStateOf v w id s → (ground_process g).goal s ≡ false
+    → AreEnough g s (codes_of loaded) → All (IsFound g v w s) loaded
+    → w.loads ≡ loads_in (readings_of loaded) ++ v.loads → IsAnswer g.penalty s loaded last
+    → least_low g.penalty s loaded ≤ noted_lower w id → noted_upper w id ≤ least_word g.penalty s loaded → HasBackedUp g v w id last
+has_backed_up g v w id s last loaded state off enough each loads answer raised sunk =
+    let all = speak_of_all g v w s loaded enough each g.penalty last loads answer in let low = all.lower in let high = all.upper in (
+      s,
+      state,
+      (
+        (λ on. absurd (both_ways ((ground_process g).goal s) off on)),
+        λ _. (all.found, record { readings = all.are; answer = all.answer; raised = omega arith; sunk = omega arith }),
+      ),
+    )
 
 -- ---- what was read, since an earlier time
 

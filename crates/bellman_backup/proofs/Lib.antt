@@ -3,6 +3,7 @@ pub mod WordsRead
 pub mod NextRead
 pub mod Summing
 pub mod Choosers
+pub mod AllOpen
 pub mod Narrowing
 pub mod Answering
 pub mod Stepping

@@ -2,14 +2,14 @@
 --     Keeps b old new            the same pass later: it has noted all that it had noted, and has the same rights
 --     IsStateOf v w id s         s is the state of id: w has it, and where v had one, it was s
 --     IsFound g v w s f          what was read of an open action of s, between v and w
---     AreFound g v w s found     readings of open actions that are enough, in the order of their codes, by the loads that w has made
---                                since v
+--     AreFound g v w s found     what was read of all open actions of s, in the order of their codes. The loads that w has made since
+--                                v are those of some of them, in the same order, which stand for all
 --     IsBackup g v w id s last found
 --                                off goals: the answer is that of the readings, and w has noted their backup for id
---     HasBackedUp g v w id last  at a goal nothing is read; elsewhere so it is for some readings
+--     HasBackedUp g v w id last  at a goal nothing is read; elsewhere so it is for what was read of all open actions
 --     IsBackedUp g v w s         w has seen of s at least the rounded backup of what v had seen of the next states
 --     Narrows g v w id           so it is with each state that v has id with
-use Rattle.std.specs.Prelude.{◌≡◌, ℕ, ◌≤◌, true, false, IsTrue, Some, List, ◌++◌, map, flat_map, All}
+use Rattle.std.specs.Prelude.{◌≡◌, ℕ, ◌<◌, ◌≤◌, true, false, IsTrue, Some, List, ◌++◌, All, AllPairs, Contains}
 use Rattle.std.specs.List.{slice_get, AllZip}
 use Rattle.fixed_round.specs.Words.{value_of}
 use Rattle.decision_process.specs.Backup.{lower_backup, upper_backup}
@@ -17,7 +17,6 @@ use Rattle.ground_model.specs.Packed.{State}
 use Rattle.ground_model.specs.Choices.{next_state}
 use Rattle.ground_model.specs.Ground.{Ground}
 use Rattle.ground_model.specs.Steps.{ground_process}
-use Rattle.applicable_actions.specs.distinct.Enough.{AreEnough}
 use Rattle.word_table.specs.declared.view.View.{View}
 use Rattle.word_table.specs.view.Views.{has_state, noted_lower, noted_upper, seen_lower, seen_upper}
 use Rattle.word_table.specs.view.Laws.{HasMore}
@@ -27,7 +26,7 @@ use Rattle.brtdp_trial.specs.declared.step.TheConstants.{AT_GOAL}
 use Rattle.brtdp_trial.specs.Meaning.{Last}
 use Rattle.brtdp_trial.specs.Listed.{no_action}
 use Rattle.bellman_backup.specs.Readings.{IsReading, loads_in}
-use Rattle.bellman_backup.specs.Candidates.{Found, IsAnswer, least_low, least_word}
+use Rattle.bellman_backup.specs.Candidates.{Found, HasOneFor, codes_of, readings_of, IsAnswer, least_low, least_word}
 
 pub record Keeps (b : Board) (old new : Knowledge) : Type 0 where
   pub here : IsOf b new
@@ -45,9 +44,13 @@ module _ (g : Ground) (v w : View) where
     pub readings : AllZip (λ c r. IsReading g v w (next_state s c) r) f.action.choices f.readings
 
   pub record AreFound (s : State) (found : List Found) : Type 0 where
-    pub codes : AreEnough g s (map (λ (f : Found). f.code) found)
+    pub codes : codes_of found ≡ (ground_process g).choices s
     pub each : All (IsFound s) found
-    pub loads : w.loads ≡ loads_in (flat_map (λ (f : Found). f.readings) found) ++ v.loads
+    pub loaded : List Found
+    pub part : All (Contains found) loaded
+    pub rising : AllPairs (λ (j k : ℕ). j < k) (codes_of loaded)
+    pub all : All (HasOneFor loaded) found
+    pub loads : w.loads ≡ loads_in (readings_of loaded) ++ v.loads
 
   pub record IsBackup (id : ℕ) (s : State) (last : Last) (found : List Found) : Type 0 where
     pub readings : AreFound s found

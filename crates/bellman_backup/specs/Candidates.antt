@@ -1,5 +1,9 @@
 -- What the readings of the open actions of a state come to, by the Bellman equation with giving up.
 --     Found                      what was read of the outcomes of one open action: a reading for each of its choices
+--     StandsFor e f              what was read of f is what was read of e: the actions differ at most in their names, and e has no
+--                                greater code
+--     HasOneFor loaded f         one of these stands for f
+--     codes_of, readings_of      the codes of several, and all their readings
 --     sum_of s number f          the sum over the choices of weight times cost and number read
 --     low s f, high s f          the mean cost, with lower numbers, rounded down; with upper ones, rounded up
 --     act_word s f               the upper word that the action supports
@@ -8,7 +12,7 @@
 --     answer_of f                the answer that names the action
 --     IsFirstBest p s found last the answer names the first action of the least lower mean, which is below the penalty
 --     IsAnswer p s found last    so it does where there is one, and else it gives up
-use Rattle.std.specs.Prelude.{◌≡◌, ◌⊎◌, ℕ, ◌<◌, List, [], ◌∷◌, ◌++◌, map, All}
+use Rattle.std.specs.Prelude.{◌≡◌, ◌⊎◌, ℕ, ◌<◌, ◌≤◌, List, [], ◌∷◌, ◌++◌, map, flat_map, All, Contains}
 use Rattle.fixed_round.specs.Means.{weighted}
 use Rattle.fixed_round.specs.Words.{word_of, value_of}
 use Rattle.decision_process.specs.Process.{min_with}
@@ -17,6 +21,7 @@ use Rattle.ground_model.specs.declared.action.Choice.{Choice}
 use Rattle.ground_model.specs.declared.action.GroundAction.{GroundAction}
 use Rattle.ground_model.specs.Packed.{State, has_bit}
 use Rattle.ground_model.specs.Choices.{cost_of}
+use Rattle.applicable_actions.specs.distinct.Enough.{DoTheSame}
 use Rattle.bound_core.specs.Numbers.{quit_word}
 use Rattle.brtdp_trial.specs.declared.step.Step.{Step}
 use Rattle.brtdp_trial.specs.declared.step.TheConstants.{GIVE_UP}
@@ -28,6 +33,20 @@ pub record Found : Type 0 where
   pub code : ℕ
   pub action : GroundAction
   pub readings : List Reading
+
+pub record StandsFor (e f : Found) : Type 0 where
+  pub action : DoTheSame e.action f.action
+  pub readings : e.readings ≡ f.readings
+  pub not_above : e.code ≤ f.code
+
+abbrev pub HasOneFor : List Found → Found → Type 0
+HasOneFor loaded f = (e : Found) × Contains loaded e × StandsFor e f
+
+abbrev pub codes_of : List Found → List ℕ
+codes_of = map (λ (f : Found). f.code)
+
+abbrev pub readings_of : List Found → List Reading
+readings_of = flat_map (λ (f : Found). f.readings)
 
 -- ---- one action
 

@@ -4,7 +4,7 @@
 --     HasChosen g v w s codes chosen b
 --                                the actions of these codes were read, and b is their best: its numbers are the least, and it
 --                                names the first of the least lower mean, whose choices as they were read are the chosen ones
-use Rattle.std.specs.Prelude.{◌≡◌, ℕ, false, IsTrue, Some, List, ◌++◌, map, flat_map, All}
+use Rattle.std.specs.Prelude.{◌≡◌, ℕ, false, IsTrue, Some, List, ◌++◌, All}
 use Rattle.std.specs.List.{slice_get, AllZip}
 use Rattle.ground_model.specs.Packed.{State}
 use Rattle.ground_model.specs.Choices.{next_state}
@@ -16,7 +16,7 @@ use Rattle.brtdp_trial.specs.declared.step.Step.{Step}
 use Rattle.brtdp_trial.specs.Listed.{last_in}
 use Rattle.bellman_backup.specs.declared.best.Best.{Best}
 use Rattle.bellman_backup.specs.Readings.{IsRead, loads_in}
-use Rattle.bellman_backup.specs.Candidates.{Found, IsAnswer, least_low, least_word}
+use Rattle.bellman_backup.specs.Candidates.{Found, codes_of, readings_of, IsAnswer, least_low, least_word}
 
 pub record IsOpenState (g : Ground) (v : View) (s : State) : Type 0 where
   pub id : ℕ
@@ -31,9 +31,9 @@ pub record IsReadAction (g : Ground) (v w : View) (s : State) (f : Found) : Type
 pub record HasChosen (g : Ground) (v w : View) (s : State) (codes : List ℕ) (chosen : List Step) (b : Best) :
     Type 0 where
   pub found : List Found
-  pub codes_are : map (λ (f : Found). f.code) found ≡ codes
+  pub codes_are : codes_of found ≡ codes
   pub each : All (IsReadAction g v w s) found
-  pub loads : w.loads ≡ loads_in (flat_map (λ (f : Found). f.readings) found) ++ v.loads
+  pub loads : w.loads ≡ loads_in (readings_of found) ++ v.loads
   pub lower : b.lower ≡ least_low g.penalty s found
   pub word : b.word ≡ least_word g.penalty s found
   pub answer : IsAnswer g.penalty s found (last_in b.code b.den chosen)

@@ -9,7 +9,7 @@
 --                                so it is since some earlier time of the pass, at which it knew the id
 --     IsNarrowed l id lower word m
 --                                m has looked at the count since l, and noted these numbers of the id
-use Rattle.std.specs.Prelude.{◌≡◌, ℕ, true, false, Option, Some, None, List, ◌++◌, map, flat_map, All}
+use Rattle.std.specs.Prelude.{◌≡◌, ℕ, true, false, Option, Some, None, List, ◌++◌, All}
 use Rattle.ground_model.specs.Packed.{State}
 use Rattle.ground_model.specs.Invariant.{IsGroundProblem}
 use Rattle.ground_model.specs.Steps.{ground_process}
@@ -22,7 +22,7 @@ use Rattle.brtdp_trial.specs.Meaning.{Last}
 use Rattle.brtdp_trial.specs.Listed.{no_action}
 use Rattle.bellman_backup.specs.declared.best.Best.{Best}
 use Rattle.bellman_backup.specs.Readings.{loads_in}
-use Rattle.bellman_backup.specs.Candidates.{Found, IsAnswer, least_low, least_word}
+use Rattle.bellman_backup.specs.Candidates.{Found, codes_of, readings_of, IsAnswer, least_low, least_word}
 use Rattle.bellman_backup.specs.Backups.{Keeps, IsStateOf}
 use Rattle.bellman_backup.specs.Choosing.{IsReadAction}
 
@@ -33,10 +33,9 @@ module _ (b : Board) (k l : Knowledge) (id : ℕ) where
     pub is : IsStateOf k.view l.view id state
     pub off_goal : (ground_process b.problem).goal state ≡ false
     pub found : List Found
-    pub codes : AreEnough b.problem state (map (λ (f : Found). f.code) found)
+    pub codes : AreEnough b.problem state (codes_of found)
     pub each : All (IsReadAction b.problem k.view l.view state) found
-    pub loads : l.view.loads
-        ≡ loads_in (flat_map (λ (f : Found). f.readings) found) ++ k.view.loads
+    pub loads : l.view.loads ≡ loads_in (readings_of found) ++ k.view.loads
     pub lower_is : lower ≡ least_low b.problem.penalty state found
     pub word_is : word ≡ least_word b.problem.penalty state found
     pub answer : IsAnswer b.problem.penalty state found last

@@ -16,10 +16,12 @@ use word_table::{Pass, Words};
 
 /// Backs up an id: reads the intervals of all states that may follow its state, narrows its own by the
 /// least mean cost of an open action, or of giving up, and answers the action that is best by the lower
-/// numbers. At a goal it does nothing, and answers that code. Of open actions that differ in their names alone
-/// it reads one.
+/// numbers. At a goal it does nothing, and answers that code.
 ///
 /// Each number is read once, so the answer and its choices are those of one reading, whatever other passes do.
+/// The least numbers and the answer go over all open actions. What is loaded are the numbers of some of them:
+/// one that differs in its name alone from one with a lower code may be left out, and then has that one's readings.
+///
 /// The scratch keeps the ids of the states that may follow, as far as it has room. Where they are kept, no action
 /// is tested, no successor is made, and no id is looked up. It takes no memory.
 pub fn backup(words: &Words<'_>, pass: &mut Pass, id: u32, scratch: &mut Scratch<'_>) -> Backed
