@@ -54,14 +54,14 @@ module _ (g : Ground) (rest : List ℕ) (rs : List Reply) (n : ℕ) where
   )
 
 -- what a server answered, and the text that it put
-pub record HasPut (g : Ground) (from to : Input) (old new : Option (List ℕ)) (served : Served) (replies : List Reply) : Type 0 where
+pub record HasPut (g : Ground) (swept : ℕ) (from to : Input) (old new : Option (List ℕ)) (served : Served) (replies : List Reply) : Type 0 where
   pub answers : List ℕ
   pub put : Appends old new answers
-  pub answered : Answered g (exchange from to answers) served replies
+  pub answered : Answered g swept (exchange from to answers) served replies
 
-pub has_put : (g : Ground) (old new : Streams) (served : Served) (replies : List Reply) → HasServed g old new served replies
-    → HasPut g old.source new.source old.taken new.taken served replies
-has_put g old new served replies has =
+pub has_put : (g : Ground) (swept : ℕ) (old new : Streams) (served : Served) (replies : List Reply) → HasServed g swept old new served replies
+    → HasPut g swept old.source new.source old.taken new.taken served replies
+has_put g swept old new served replies has =
     let a = has.answered in
     let (text, put, puts) = text_by g (cut_of a.bytes).rest replies served.queries old.taken new.taken (is_write_fault served.end) a.puts in
     record {
@@ -109,14 +109,14 @@ stops_by_fault ends.LongLine stop is = absurd (cc is)
 stops_by_fault ends.ReadFault stop is = inl (cc is)
 stops_by_fault ends.WriteFault stop is = inr (cc is)
 
-module _ {g : Ground} {served : Served} {replies : List Reply} where
-  pub take_rose : {from to : Input} {answers : List ℕ} → Answered g (exchange from to answers) served replies
+module _ {g : Ground} {swept : ℕ} {served : Served} {replies : List Reply} where
+  pub take_rose : {from to : Input} {answers : List ℕ} → Answered g swept (exchange from to answers) served replies
       → stop_of served.end ≡ Some ReadFailed → Rose from.faults to.faults
   take_rose {from} {to} a is =
       rose_so from.faults to.faults
       (subst (λ failed. to.faults ≡ cond failed (one_more from.faults) from.faults) (source_failed served.end is) a.answered.took.faults)
 
-  pub put_rose : {old new : Streams} → HasServed g old new served replies → stop_of served.end ≡ Some WriteFailed → Rose old.faults new.faults
+  pub put_rose : {old new : Streams} → HasServed g swept old new served replies → stop_of served.end ≡ Some WriteFailed → Rose old.faults new.faults
   put_rose {old} {new} has is =
       rose_so old.faults new.faults
       (subst (λ failed. new.faults ≡ cond failed (one_more old.faults) old.faults) (sink_failed served.end is) has.faults)
@@ -126,9 +126,9 @@ on_by : (fault : Bool) (before now : ℕ) → now ≡ cond fault (one_more befor
 on_by true before now is = omega (arith, is)
 on_by false before now is = omega (arith, is)
 
-pub counts_on : (g : Ground) (old new : Streams) (served : Served) (replies : List Reply) → HasServed g old new served replies
+pub counts_on : (g : Ground) (swept : ℕ) (old new : Streams) (served : Served) (replies : List Reply) → HasServed g swept old new served replies
     → CountsOn old.faults new.faults
-counts_on g old new served replies has = on_by (is_write_fault served.end) old.faults new.faults has.faults
+counts_on g swept old new served replies has = on_by (is_write_fault served.end) old.faults new.faults has.faults
 
 pub rose_on : (before mid now : ℕ) → CountsOn before mid → Rose mid now → Rose before now
 rose_on before mid now on rose = omega (arith, on, rose)

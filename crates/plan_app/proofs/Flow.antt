@@ -193,11 +193,11 @@ module _ {S : Type 0} (held : S → List ℕ → Told) (reads writes : S → ℕ
 
     module _ (g : Ground) (given : MayGiveProblem (held old) s.sources (Ok g)) (from to : Streams) where
       -- the answers that were put, and an ending behind the server
-      behind : (new : S) (served : Served) (replies : List Reply) → HasServed g from to served replies → (e : Ending)
+      behind : (new : S) (served : Served) (replies : List Reply) → HasServed g s.sizes.sweep_states from to served replies → (e : Ending)
           → (e ≡ Err NoMemory) ⊎ EndsBehind held writes old new s g replies (stop_of served.end) e
           → PutsAnswers held reads writes old new from.source to.source from.taken to.taken (Some (to_serve s)) e
       behind new served replies has e ends =
-          let put = has_put g from to served replies has in
+          let put = has_put g s.sizes.sweep_states from to served replies has in
           record {
             answers = put.answers;
             put = put.put;

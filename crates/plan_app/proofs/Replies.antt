@@ -1,5 +1,5 @@
 -- What a server answered of states of the ground problem it answered of those of the task.
-use Rattle.std.proofs.Common.{◌≡◌, ℕ, ◌^◌, ◌<◌, List, [], ◌∷◌, ◌++◌, Option, Some, None, option_map, length, refl, sym, subst, inl, inr}
+use Rattle.std.proofs.Common.{◌≡◌, ℕ, ◌^◌, ◌<◌, List, [], ◌∷◌, ◌++◌, Option, Some, None, option_map, length, refl, sym, ap, ◌∙◌, subst, inl, inr}
 use Rattle.std.specs.Prelude.{Contains, IsTrue, nat_eq}
 use Rattle.std.specs.List.{AllByRecursion}
 use Rattle.std.specs.Cmp.Lexicographic.{pointwise}
@@ -12,23 +12,25 @@ use Rattle.std.proofs.lemmas.Map.Views.{Contains-from_any}
 use Rattle.plain_list.specs.Texts.{list_text}
 use Rattle.plain_list.proofs.Members.{Contains-cons_cases, Contains-nil}
 use Rattle.decision_process.specs.Least.{least, Covers}
+use Rattle.decision_process.specs.Levels.{near}
+use Rattle.decision_process.specs.sweeps.Sweeps.{IsNear}
 use Rattle.decision_process.proofs.lemmas.homomorphism.Ratios.{below_same, above_same}
 use Rattle.ppddl_model.specs.declared.tree.Task.{Task}
-use Rattle.ppddl_model.specs.Steps.{Charges, process, step_den}
+use Rattle.ppddl_model.specs.Steps.{Charges, process, starts, step_den}
 use Rattle.ground_model.specs.Packed.{State, words_for, is_inside}
 use Rattle.ground_model.specs.Choices.{is_member}
 use Rattle.ground_model.specs.Ground.{Ground}
-use Rattle.ground_model.specs.Steps.{den_of, ground_process}
+use Rattle.ground_model.specs.Steps.{den_of, ground_process, ground_starts}
 use Rattle.ground_model.proofs.Packed.{packed_inside}
 use Rattle.ground_step.specs.Atoms as atoms
 use Rattle.ground_step.specs.Names.{place_of}
-use Rattle.ground_meaning.specs.stands.Laws.{IsCarried, SameLeast}
-use Rattle.ground_meaning.specs.stands.Stands.{IsInside, state_of, IsGroundOf}
-use Rattle.plan_search.specs.service.Served.{IsSound}
+use Rattle.ground_meaning.specs.stands.Laws.{IsCarried, StatesAreFound, NearIsCarried, NearIsFound, SameLeast, SameDepth}
+use Rattle.ground_meaning.specs.stands.Stands.{IsInside, state_of, packed_of, IsGroundOf}
+use Rattle.plan_search.specs.service.Served.{IsFar, IsSound}
 use Rattle.policy_server.specs.Queries.{Piece, Names, Query, number_of, numbers_of, asked_in, query_for, query_behind, query_in, query_of, pieces_of}
 use Rattle.policy_server.specs.Queries as query
 use Rattle.policy_server.specs.Replies.{Reply, NoQuery, NoAtom, Unvisited, Found, Fits, FitEach}
-use Rattle.plan_app.specs.Solutions.{CoversFor}
+use Rattle.plan_app.specs.Solutions.{TellsOfTask}
 
 -- ---- the states that are asked for
 
@@ -87,7 +89,8 @@ module _ (g : Ground) where
 
 -- ---- what is answered
 
-module _ (carried : IsCarried) (same : SameLeast) (g : Ground) (task : Task) (charges : Charges) (stands : IsGroundOf g task charges) where
+module _ (carried : IsCarried) (same : SameLeast) (back : StatesAreFound) (near_carried : NearIsCarried) (near_found : NearIsFound)
+    (depths : SameDepth) (g : Ground) (task : Task) (charges : Charges) (stands : IsGroundOf g task charges) where
   covers_there : (lower upper : ℕ) (s : State) → IsInside g task s → Covers (ground_process g) lower upper s
       → Covers (process task charges) lower upper (state_of g task s)
   covers_there lower upper s inside covers =
@@ -104,20 +107,45 @@ module _ (carried : IsCarried) (same : SameLeast) (g : Ground) (task : Task) (ch
             (one-le-pow m (den_of g.actions) positive) (same g task charges stands m s inside) (covers.1 m),
       )
 
-  reply_covers : (q : Query) → ((s : State) → q ≡ query.Asks s → IsInside g task s) → (r : Reply) → Fits q r → IsSound g r
-      → CoversFor g task charges r
-  reply_covers q inside NoQuery fits sound = tt
-  reply_covers q inside NoAtom fits sound = tt
-  reply_covers q inside (Unvisited s) fits sound = tt
-  reply_covers (query.Asks s) inside (Found t id i) fits sound =
-      covers_there i.lower i.upper t (subst (IsInside g task) (sym fits) (inside s refl)) sound.covers
-  reply_covers query.NoQuery inside (Found t id i) fits sound = absurd fits
-  reply_covers query.NoAtom inside (Found t id i) fits sound = absurd fits
+  -- a state near the task's starts is one that stands for a state near the problem's
+  near_here : (d : ℕ) (s : State) → IsInside g task s → Contains (near (process task charges) (starts task) d) (state_of g task s)
+      → Contains (near (ground_process g) (ground_starts g) d) s
+  near_here d s inside near_there =
+      let found = near_found g task charges stands d (state_of g task s) near_there in
+      let within : IsInside g task found.0 = (near_carried g task charges stands d found.0 found.1).0 in
+      let one : found.0 ≡ s = sym (back g task charges stands found.0 within) ∙ ap (packed_of g task) found.2 ∙ back g task charges stands s inside in
+      subst (Contains (near (ground_process g) (ground_starts g) d)) one found.1
 
-  pub replies_cover : (lines : List (List ℕ)) (replies : List Reply) → FitEach g lines replies → AllByRecursion (IsSound g) replies
-      → AllByRecursion (CoversFor g task charges) replies
-  replies_cover [] [] fit sound = tt
-  replies_cover [] (r ∷ rs) fit sound = absurd fit
-  replies_cover (line ∷ lines) [] fit sound = absurd fit
-  replies_cover (line ∷ lines) (r ∷ rs) fit sound =
-      (reply_covers (query_of g line) (asked_inside g line) r fit.0 sound.0, replies_cover lines rs fit.1 sound.1)
+  is_near_here : (depth : Option ℕ) (s : State) → IsInside g task s → IsNear (process task charges) (starts task) depth (state_of g task s)
+      → IsNear (ground_process g) (ground_starts g) depth s
+  is_near_here None s inside (d, near_there) = (d, near_here d s inside near_there)
+  is_near_here (Some d) s inside near_there = near_here d s inside near_there
+
+  far_there : (swept : ℕ) (s : State) → IsInside g task s → IsFar (ground_process g) (ground_starts g) swept s
+      → IsFar (process task charges) (starts task) swept (state_of g task s)
+  far_there swept s inside is = record {
+    depth = is.depth;
+    fits = (depths g task charges stands swept is.depth).0 is.fits;
+    far = λ near_there. is.far (is_near_here is.depth s inside near_there);
+  }
+
+  module _ (swept : ℕ) where
+    reply_tells : (q : Query) → ((s : State) → q ≡ query.Asks s → IsInside g task s) → (r : Reply) → Fits q r → IsSound g swept r
+        → TellsOfTask g task charges swept r
+    reply_tells q inside NoQuery fits sound = tt
+    reply_tells q inside NoAtom fits sound = tt
+    reply_tells (query.Asks s) inside (Unvisited t) fits sound = far_there swept t (subst (IsInside g task) (sym fits) (inside s refl)) sound
+    reply_tells query.NoQuery inside (Unvisited t) fits sound = absurd fits
+    reply_tells query.NoAtom inside (Unvisited t) fits sound = absurd fits
+    reply_tells (query.Asks s) inside (Found t id i) fits sound =
+        covers_there i.lower i.upper t (subst (IsInside g task) (sym fits) (inside s refl)) sound.covers
+    reply_tells query.NoQuery inside (Found t id i) fits sound = absurd fits
+    reply_tells query.NoAtom inside (Found t id i) fits sound = absurd fits
+
+    pub replies_tell : (lines : List (List ℕ)) (replies : List Reply) → FitEach g lines replies → AllByRecursion (IsSound g swept) replies
+        → AllByRecursion (TellsOfTask g task charges swept) replies
+    replies_tell [] [] fit sound = tt
+    replies_tell [] (r ∷ rs) fit sound = absurd fit
+    replies_tell (line ∷ lines) [] fit sound = absurd fit
+    replies_tell (line ∷ lines) (r ∷ rs) fit sound =
+        (reply_tells (query_of g line) (asked_inside g line) r fit.0 sound.0, replies_tell lines rs fit.1 sound.1)

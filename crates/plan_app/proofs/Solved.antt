@@ -48,7 +48,7 @@ use Rattle.plan_app.specs.Endings.{said_by, IsMeasured, exchange, Answered, Answ
 use Rattle.plan_app.specs.Verdicts.{TellsSearch, HasVerdict, HasReport}
 use Rattle.plan_app.specs.Solutions.{IsAsNarrowAsPlain, Solves, PutsSolution, PutsService, PutsMeasure}
 use Rattle.plan_app.proofs.Named.{names_balanced, names_enclose, names_end}
-use Rattle.plan_app.proofs.Replies.{replies_cover}
+use Rattle.plan_app.proofs.Replies.{replies_tell}
 use Rattle.plan_app.proofs.States.{states_found}
 use Rattle.plan_app.proofs.Exchanges.{stops_by_fault}
 use Rattle.plan_app.proofs.Statuses.{answered_so, request_ends, answers_of}
@@ -255,7 +255,7 @@ module _ (stands : ProblemStands) (back : StatesAreFound) (near_carried : NearIs
           }
 
       -- what a server answered of this problem
-      service_from : (served : Served) (replies : List Reply) → Answered g (exchange from to ends.answers) served replies
+      service_from : (served : Served) (replies : List Reply) → Answered g s.sizes.sweep_states (exchange from to ends.answers) served replies
           → stop_of served.end ≡ None
           → IsWritten held writes old new s.certificate (IsServiceOf g s.effort s.sizes replies) ends.ending
           → PutsService s t status (held new s.certificate) from to before now
@@ -264,15 +264,16 @@ module _ (stands : ProblemStands) (back : StatesAreFound) (near_carried : NearIs
           let has = solution_from (IsServiceOf g s.effort s.sizes replies) wrote service.is_answer in
           let kept_here = subst (λ c. KeepsEach g c replies) (sym has.same_content) service.kept in
           let found : Solves s.sources t s.effort s.sizes status = has.solution.solves in
-          let answered_here : Answered found.g (exchange from to ends.answers) served replies =
-          subst (λ h. Answered h (exchange from to ends.answers) served replies) (sym has.same_problem) answered in
+          let answered_here : Answered found.g s.sizes.sweep_states (exchange from to ends.answers) served replies =
+          subst (λ h. Answered h s.sizes.sweep_states (exchange from to ends.answers) served replies) (sym has.same_problem) answered in
           record {
             answers = ends.answers;
             solution = has.solution;
             served = served;
             replies = replies;
             answered = answered_here;
-            covers = replies_cover process_carried least_same found.g found.of_task.task found.of_task.charges found.of_task.stands
+            of_task = replies_tell process_carried least_same back near_carried near_found depths found.g found.of_task.task
+                found.of_task.charges found.of_task.stands s.sizes.sweep_states
                 (queries_of answered_here.answered.bytes answered_here.answered.ended) replies answered_here.answered.fit answered_here.sound;
             no_fault = whole;
             kept = subst (λ h. KeepsEach h has.solution.solves.c replies) (sym has.same_problem) kept_here;

@@ -8,7 +8,7 @@
 --     IsMeasured places seed g e  the report of the search that measures the program
 --     Exchange                    what was taken from the input, and the text of the answers that a server put
 --     IsSilent x                  no server was started: nothing was taken, and nothing answered
---     Answered g x served replies
+--     Answered g swept x served replies
 --                                 a server put the lines of these replies, and no other, by what it took; each is sound, and a later one
 --                                 of a state is no wider
 --     Lacks held q                a name is missing where a request asks for it: a certificate behind texts with a ground problem alone
@@ -115,9 +115,9 @@ pub record IsSilent (x : Exchange) : Type 0 where
   pub nothing_put : x.answers ≡ []
 
 -- as on a sink that held nothing
-pub record Answered (g : Ground) (x : Exchange) (served : Served) (replies : List Reply) : Type 0 where
+pub record Answered (g : Ground) (swept : ℕ) (x : Exchange) (served : Served) (replies : List Reply) : Type 0 where
   pub answered : HasAnswered g x.from x.to (Some []) (Some x.answers) served replies
-  pub sound : AllByRecursion (IsSound g) replies
+  pub sound : AllByRecursion (IsSound g swept) replies
   pub in_turn : FollowEach replies
 
 -- ---- by what a shelf holds
@@ -212,7 +212,7 @@ module _ {S : Type 0} (held : S → List ℕ → Told) (reads writes : S → ℕ
     pub problem : MayGiveProblem (held old) s.sources (Ok g)
     pub served : Served
     pub replies : List Reply
-    pub answered : Answered g x served replies
+    pub answered : Answered g s.sizes.sweep_states x served replies
     pub ends : (e ≡ Err NoMemory) ⊎ EndsBehind held writes old new s g replies (stop_of served.end) e
 
   abbrev pub ServiceFor : Asked → Ending → Type 0

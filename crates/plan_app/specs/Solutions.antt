@@ -13,7 +13,9 @@
 --     PutsSolution s t status now answers old new
 --                                   the certificate that was found is held now, where it is accepted, and the report was put behind these
 --                                   answers, which are none but those of a server
---     CoversFor g task charges r    the interval that a reply tells covers the least cost of the task from the state for which it was asked
+--     TellsOfTask g task charges swept r
+--                                   the interval that a reply tells covers the least cost of the task from the state for which it was
+--                                   asked; a state that was not found is far from the task's starts
 --     PutsService s t status now from to old new
 --                                   the same behind the answers to all queries that the input completes, up to the 100,000th and to the
 --                                   first line that is too long; the certificate is no wider at a state than any answer that told of it
@@ -48,6 +50,7 @@ use Rattle.plan_request.specs.Asked.{Sources, Solving}
 use Rattle.plan_report.specs.Solved.{Solved, solve_text}
 use Rattle.plan_search.specs.Found.{IsFound}
 use Rattle.plan_search.specs.Serving.{stop_of, KeepsEach}
+use Rattle.plan_search.specs.service.Served.{IsFar}
 use Rattle.policy_server.specs.declared.served.Served.{Served}
 use Rattle.policy_server.specs.Replies.{Reply, NoQuery, NoAtom, Unvisited, Found}
 use Rattle.policy_server.specs.Serving.{Input}
@@ -115,19 +118,20 @@ pub record PutsSolution (s : Solving) (t : Texts) (status : ℕ) (now : Told) (a
   pub accepted : IsAccepted s.sources t (text_of solves.c)
   pub put : Appends old new (answers ++ report_of solves)
 
-abbrev pub CoversFor : Ground → Task → Charges → Reply → Type 0
-CoversFor g task charges NoQuery = Unit {0}
-CoversFor g task charges NoAtom = Unit {0}
-CoversFor g task charges (Unvisited s) = Unit {0}
-CoversFor g task charges (Found s id i) = Covers (process task charges) i.lower i.upper (state_of g task s)
+abbrev pub TellsOfTask : Ground → Task → Charges → ℕ → Reply → Type 0
+TellsOfTask g task charges swept NoQuery = Unit {0}
+TellsOfTask g task charges swept NoAtom = Unit {0}
+TellsOfTask g task charges swept (Unvisited s) = IsFar (process task charges) (starts task) swept (state_of g task s)
+TellsOfTask g task charges swept (Found s id i) = Covers (process task charges) i.lower i.upper (state_of g task s)
 
 pub record PutsService (s : Solving) (t : Texts) (status : ℕ) (now : Told) (from to : Input) (old new : Option (List ℕ)) : Type 0 where
   pub answers : List ℕ
   pub solution : PutsSolution s t status now answers old new
   pub served : Served
   pub replies : List Reply
-  pub answered : Answered solution.solves.g (exchange from to answers) served replies
-  pub covers : AllByRecursion (CoversFor solution.solves.g solution.solves.of_task.task solution.solves.of_task.charges) replies
+  pub answered : Answered solution.solves.g s.sizes.sweep_states (exchange from to answers) served replies
+  pub of_task : AllByRecursion
+      (TellsOfTask solution.solves.g solution.solves.of_task.task solution.solves.of_task.charges s.sizes.sweep_states) replies
   pub no_fault : stop_of served.end ≡ None
   pub kept : KeepsEach solution.solves.g solution.solves.c replies
 

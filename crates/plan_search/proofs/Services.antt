@@ -18,7 +18,8 @@ use Rattle.policy_server.specs.declared.served.Served.{Served}
 use Rattle.plan_search.specs.service.Served.{Streams, IsServed, IsKept}
 use Rattle.plan_search.specs.declared.answer.Answer.{Answer}
 use Rattle.plan_search.specs.Answers.{IsAnswerOf, IsTooLong}
-use Rattle.plan_search.specs.Solving.{IsAnswerLeft}
+use Rattle.plan_search.specs.Solving.{solver_sizes, IsAnswerLeft}
+use Rattle.plan_search.specs.declared.solver.sizes.Sizes as solver
 use Rattle.plan_search.specs.Serving.{stop_of, KeepsEach, AnswersBehind, EndsServing}
 
 module _ (g : Ground) where
@@ -57,7 +58,11 @@ module _ (g : Ground) where
         | inr long ↦ inr long
       ]
 
-    module _ (old new : Streams) (left : Closing) (served : Served) (by : IsServed g (closing_rows left.image.rows) old new served) where
+    module _ (old new : Streams) (left : Closing) (served : Served) (table : solver.Sizes) (is_table : table ≡ solver_sizes sizes)
+        (by_table : IsServed g table.sweep_states (closing_rows left.image.rows) old new served) where
+      by : IsServed g sizes.sweep_states (closing_rows left.image.rows) old new served
+      by = subst (λ (z : solver.Sizes). IsServed g z.sweep_states (closing_rows left.image.rows) old new served) is_table by_table
+
       -- behind a server that no fault stopped
       pub ends_answering : stop_of served.end ≡ None → (r : Result Answer Stop) → IfOk r (IsAnswerLeft g effort sizes left)
           → IfErr r (λ stop. (stop ≡ NoMemory) ⊎ IsTooLong g effort sizes stop) → EndsServing g effort sizes old new r

@@ -53,5 +53,5 @@ module _ (g : Ground) (effort : Effort) (sizes : Sizes) where
   pub record EndsServing (old new : Streams) (r : Result Answer Stop) : Type 0 where
     pub served : Served
     pub replies : List Reply
-    pub has : HasServed g old new served replies
+    pub has : HasServed g sizes.sweep_states old new served replies
     pub ends : (r ≡ Err NoMemory) ⊎ AnswersBehind (stop_of served.end) replies r

@@ -37,11 +37,11 @@ pub fn serve<R: Threads + Sync, I: Source, O: Sink, G: Gate>(
     ensures served { let shown = streams I.left I.ends I.faults O.taken O.faults
         in let from = shown source.old sink.old in let to = shown source.new sink.new
         in IfOk result (λ s. let rows = closing_rows s.closing.image.rows
-        in IsServed problem.now rows from to s.served) }
+        in IsServed problem.now sizes.now.sweep_states rows from to s.served) }
     ensures refused { let shown = streams I.left I.ends I.faults O.taken O.faults
         in let from = shown source.old sink.old in let to = shown source.new sink.new
         in IfErr result (λ e. IsUnserved source.old source.new sink.old sink.new
-        ⊎ WasServed problem.now from to) }
+        ⊎ WasServed problem.now sizes.now.sweep_states from to) }
 {
     let Opening {
         words,

@@ -83,7 +83,7 @@ returns-in_err-answer-clause-write_failed g c = λ is.
 
 pub returns-in_err-answer-clause-counts : goal.returns-in_err-answer-clause-counts
 returns-in_err-answer-clause-counts g c = elim c.in_err-answer.ensures [
-  | inl serving ↦ counts_on c.in_ok-problem.problem _ _ serving.served serving.replies serving.has
+  | inl serving ↦ counts_on c.in_ok-problem.problem _ _ _ serving.served serving.replies serving.has
   | inr (none, same) ↦ counts_same g.O.Sink.faults same.1
 ]
 
@@ -119,7 +119,7 @@ returns-clause-write_failed g c = λ is.
 pub returns-clause-counts : goal.returns-clause-counts
 returns-clause-counts g c =
     let serving = serving_so c.in_ok-answer.ensures in
-    counts_on c.in_ok-problem.problem _ _ serving.served serving.replies serving.has
+    counts_on c.in_ok-problem.problem _ _ _ serving.served serving.replies serving.has
 
 pub returns-clause-calls : goal.returns-clause-calls
 returns-clause-calls g c =

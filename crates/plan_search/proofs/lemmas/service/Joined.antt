@@ -3,7 +3,7 @@ use Rattle.std.proofs.Common.{◌≡◌, ◌-◌, List, sym, ◌∙◌, subst}
 use Rattle.ground_model.specs.Packed.{State}
 use Rattle.ground_model.specs.Ground.{Ground}
 use Rattle.word_table.specs.view.Laws.{HasMore}
-use Rattle.word_table.specs.view.Steps.{united}
+use Rattle.word_table.specs.view.Steps.{united, without_rights}
 use Rattle.word_table.proofs.lemmas.view.Noting.{united_is_more}
 use Rattle.word_table.specs.Seen.{Board, Knowledge, knowledge, IsOf, with_rights}
 use Rattle.kept_transitions.specs.Rows.{Transitions}
@@ -14,6 +14,11 @@ use Rattle.trial_workers.proofs.Passes.{same_rights}
 pub still_listed : (states : List State) (k l : Knowledge) → l ≡ knowledge k.table (with_rights (k.view.rights - 0) k.view) → HasListed states k.view
     → HasListed states l.view
 still_listed states k l is has = subst (λ (m : Knowledge). HasListed states m.view) (sym (is ∙ same_rights k)) has
+
+-- the pass that is split off has them too
+pub split_listed : (states : List State) (k l : Knowledge) → l ≡ knowledge k.table (with_rights 0 (without_rights k.view)) → HasListed states k.view
+    → HasListed states l.view
+split_listed states k l is has = subst (λ (m : Knowledge). HasListed states m.view) (sym is) has
 
 pub still_kept : (g : Ground) (t : Transitions) (k l : Knowledge) → l ≡ knowledge k.table (with_rights (k.view.rights - 0) k.view) → KeepsStates g k.view t
     → KeepsStates g l.view t

@@ -30,6 +30,7 @@ use Rattle.plan_search.specs.solver.Rounds.{HasSolved}
 use Rattle.plan_search.specs.solver.Ended.{IsEnded}
 use Rattle.plan_search.specs.solver.Solved.{IsSolved}
 use Rattle.plan_search.specs.solver.Laws.{FirstHasSolved, LaterHasSolved, ClosingIsSolved, closing_of}
+use Rattle.plan_search.proofs.lemmas.solver.Listing.{opened_lists}
 use Rattle.plan_search.proofs.lemmas.solver.Rows.{place_of}
 
 -- ---- the means over the starts
@@ -122,5 +123,5 @@ pub closing_is_solved : ClosingIsSolved
 closing_is_solved g sizes effort o solved k image opened has ended =
     subst (λ (p : Ground). IsSolved p sizes effort (closing_of image solved)) opened.problem
     (is_solved o.words sizes effort opened.states o.extent
-    (subst (λ (p : Ground). AreNear p sizes.sweep_states opened.states o.extent) (sym opened.problem) opened.listed)
+    (opened_lists g sizes o opened)
     opened.room opened.rights.0 solved k has image ended)

@@ -83,6 +83,10 @@ module _ (g : Ground) (sizes : Sizes) (o : Opening) (k : Knowledge) (states : Li
 pub opened_keeps : (g : Ground) (sizes : Sizes) (o : Opening) → IsOpened g sizes o → KeepsStates o.words.problem o.pass.view (arc_value o.near)
 opened_keeps g sizes o opened = subst (λ (p : Ground). KeepsStates p o.pass.view (arc_value o.near)) (sym opened.problem) opened.near
 
+-- so are the listed states
+pub opened_lists : (g : Ground) (sizes : Sizes) (o : Opening) → (opened : IsOpened g sizes o) → AreNear o.words.problem sizes.sweep_states opened.states o.extent
+opened_lists g sizes o opened = subst (λ (p : Ground). AreNear p sizes.sweep_states opened.states o.extent) (sym opened.problem) opened.listed
+
 -- a crew that has the listed states has the states near the starts
 pub opened_is_near : (g : Ground) (sizes : Sizes) (o : Opening) → (opened : IsOpened g sizes o) → AreSizes sizes → (ws : List Worker) → FirstHas opened.states ws
     → IsNear o.words.problem o.extent ws
@@ -91,7 +95,7 @@ opened_is_near g sizes o opened are ws has = record {
   listed = (
     sizes.sweep_states,
     (let room = are.room in let few = are.few in omega arith),
-    subst (λ (p : Ground). AreNear p sizes.sweep_states opened.states o.extent) (sym opened.problem) opened.listed,
+    opened_lists g sizes o opened,
   );
   has = has;
 }

@@ -1,10 +1,10 @@
 -- From the rounds and the run of the server to the answer.
 use Rattle.std.proofs.Common.{rules, sym, ◌∙◌}
 use Rattle.std.specs.Arc.{arc_value}
-use Rattle.plan_search.proofs.lemmas.solver.Listing.{opened_keeps, opened_is_near}
+use Rattle.plan_search.proofs.lemmas.solver.Listing.{opened_keeps, opened_lists, opened_is_near}
 use Rattle.plan_search.proofs.lemmas.solver.Answering.{first_has_solved, later_has_solved, closing_is_solved}
 use Rattle.plan_search.specs.service.Served.{streams, WasServed}
-use Rattle.plan_search.proofs.lemmas.service.Joined.{still_listed, still_kept, joined_is_here, joined_has_both}
+use Rattle.plan_search.proofs.lemmas.service.Joined.{still_listed, split_listed, still_kept, joined_is_here, joined_has_both}
 use Rattle.plan_search.proofs.lemmas.service.Kept.{was_served, is_served}
 use Rattle.plan_search.proofs.service.serving.serve.Goals as goal
 
@@ -39,11 +39,13 @@ finish-requires g c =
 
 pub returns-in_err-image-clause-refused : goal.returns-in_err-image-clause-refused
 returns-in_err-image-clause-refused g c =
-    let o = c.in_ok-words.field-0 in let beside = c.solve_beside in
+    let o = c.in_ok-words.field-0 in let opened = c.in_ok-words.ensures in let beside = c.solve_beside in
     let shown = streams g.I.Source.left g.I.Source.ends g.I.Source.faults g.O.Sink.taken g.O.Sink.faults in
-    let was : WasServed c.args.problem.now (shown c.args.source.now c.args.sink.now) (shown beside.new.source beside.new.sink)
+    let was : WasServed c.args.problem.now c.args.sizes.now.sweep_states (shown c.args.source.now c.args.sink.now) (shown beside.new.source beside.new.sink)
     = was_served o.words c.split-looking.result beside.new.pass (shown c.args.source.now c.args.sink.now) (shown beside.new.source beside.new.sink)
-    beside.result.1 beside.ensures.ran c.args.problem.now c.in_ok-words.ensures.problem in
+    beside.result.1 beside.ensures.ran c.args.sizes.now.sweep_states opened.states o.extent (opened_lists c.args.problem.now c.args.sizes.now o opened)
+    (split_listed opened.states o.pass c.split-looking.result c.split-looking.ensures.new opened.has)
+    c.args.problem.now opened.problem in
     search (rules, was)
 
 pub returns-clause-solved : goal.returns-clause-solved
@@ -59,10 +61,12 @@ returns-clause-solved g c =
 
 pub returns-clause-served : goal.returns-clause-served
 returns-clause-served g c =
-    let o = c.in_ok-words.field-0 in let beside = c.solve_beside in
-    let states = c.in_ok-words.ensures.states in let has = c.in_ok-crew.ensures.has states (still_listed states o.pass c.split-looking.new.pass c.split-looking.ensures.old c.in_ok-words.ensures.has) in
+    let o = c.in_ok-words.field-0 in let opened = c.in_ok-words.ensures in let beside = c.solve_beside in
+    let states = opened.states in let has = c.in_ok-crew.ensures.has states (still_listed states o.pass c.split-looking.new.pass c.split-looking.ensures.old c.in_ok-words.ensures.has) in
     let first = first_has_solved o.words c.args.effort.now states o.extent c.in_ok-crew.crew beside.new.crew beside.result.0 c.dismiss-pass.result has beside.ensures.made c.dismiss-pass.ensures in
     let both = joined_has_both o.words c.dismiss-pass.result beside.new.pass c.join.new.pass first.here beside.ensures.ran.run.serves.here c.join.ensures in
     let shown = streams g.I.Source.left g.I.Source.ends g.I.Source.faults g.O.Sink.taken g.O.Sink.faults in
     is_served o.words c.split-looking.result beside.new.pass (shown c.args.source.now c.args.sink.now) (shown beside.new.source beside.new.sink)
-    beside.result.1 beside.ensures.ran c.args.problem.now c.in_ok-words.ensures.problem c.join.new.pass both.1 c.in_ok-image.image c.in_ok-image.ensures
+    beside.result.1 beside.ensures.ran c.args.sizes.now.sweep_states states o.extent (opened_lists c.args.problem.now c.args.sizes.now o opened)
+    (split_listed states o.pass c.split-looking.result c.split-looking.ensures.new opened.has)
+    c.args.problem.now opened.problem c.join.new.pass both.1 c.in_ok-image.image c.in_ok-image.ensures
