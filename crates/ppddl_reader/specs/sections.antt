@@ -4,3 +4,4 @@ pub mod Predicates
 pub mod Actions
 pub mod Starts
 pub mod Goals
+pub mod Apart

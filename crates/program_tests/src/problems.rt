@@ -106,7 +106,7 @@ choice 1/2 2.000000 + - when 0
 
 /// What stands in place of what in which text, and what is put then: problems of one text and of two, and refusals
 /// with the text in which they are.
-static GROUND: [(&[(&str, &str, &str)], &str, u8, &str); 17] = [
+static GROUND: [(&[(&str, &str, &str)], &str, u8, &str); 18] = [
     (&[], "ground two", 0, TWO_REPORT),
     (&[], "ground two --problem=blank", 0, TWO_REPORT),
     (
@@ -118,6 +118,38 @@ static GROUND: [(&[(&str, &str, &str)], &str, u8, &str); 17] = [
         "ground coin --step-cost 1",
         0,
         WAITING_REPORT,
+    ),
+    // A fact behind seven draws comes first, so that what the last one draws holds in any case.
+    (
+        &[
+            (
+                "coin",
+                "(:predicates (done))",
+                "(:predicates (done) (on ?x))",
+            ),
+            (
+                "coin",
+                "(:init)",
+                "(:objects a b c d e f g)
+  (:init (probabilistic 0.5 (on a)) (probabilistic 0.5 (on b)) (probabilistic 0.5 (on c))
+    (probabilistic 0.5 (on d)) (probabilistic 0.5 (on e)) (probabilistic 0.5 (on f))
+    (probabilistic 0.5 (on g)) (on g))",
+            ),
+        ],
+        "ground coin",
+        0,
+        "penalty 10.000000
+atoms 8
+(done)
+(on a)
+(on b)
+(on c)
+(on d)
+(on e)
+(on f)
+(on g)
+starts 64
+start 1/64 : (on a) (on b) (on c) (on d) (on e) (on f) (on g)",
     ),
     // Neither a penalty nor a goal reward.
     (&[], "check tire --cert c", 6, "refused 18 1:15\n"),

@@ -1,9 +1,9 @@
 -- What is read of a problem's start and goal fits, and draws by probabilities.
 --     StartSoFar w domain s     what is known of `:init` while it is read
-use Rattle.std.proofs.Common.{◌≡◌, true, All, [], ◌∷◌, Some, Ok, refl, subst}
+use Rattle.std.proofs.Common.{◌≡◌, Bool, true, All, List, [], ◌∷◌, Some, Ok, refl, subst}
 use Rattle.std.specs.List.{list_all}
-use Rattle.std.proofs.lemmas.Bool.{and_from}
-use Rattle.std.proofs.lemmas.List.Elements.{All-nil, All-push}
+use Rattle.std.proofs.lemmas.Bool.{and_from, and_parts}
+use Rattle.std.proofs.lemmas.List.Elements.{All-nil, All-cons, All-head, All-tail, All-push}
 use Rattle.plain_list.proofs.Results.{bind_ok, ok_is}
 use Rattle.ppddl_model.specs.declared.limits.TheConstants.{MOST_PENALTY}
 use Rattle.ppddl_model.specs.declared.tree.Domain.{Domain}
@@ -22,7 +22,7 @@ use Rattle.ppddl_forms.specs.Words.{amount}
 use Rattle.ppddl_forms.specs.items.Items.{item}
 use Rattle.ppddl_reader.specs.declared.sections.start.Start.{Start}
 use Rattle.ppddl_reader.specs.sections.Goals.{goal, goal_reward}
-use Rattle.ppddl_reader.specs.sections.Starts.{no_items, put, started, start_behind}
+use Rattle.ppddl_reader.specs.sections.Starts.{no_items, behind_facts, put, started, start_behind}
 use Rattle.ppddl_form_grammar.specs.fits.Growth.{AreDeclaredIn}
 use Rattle.ppddl_form_grammar.proofs.lemmas.fits.Items.{item-fits, item-draws, value-fits}
 use Rattle.ppddl_form_grammar.proofs.lemmas.fits.Problem.{reward_fit}
@@ -30,6 +30,23 @@ use Rattle.ppddl_form_grammar.proofs.lemmas.fits.Reading.{condition-fits}
 use Rattle.ppddl_form_grammar.proofs.lemmas.fits.Tests.{all-both}
 use Rattle.ppddl_grammar.specs.fits.Laws.{StartFits, StartDraws, ValuesFit, GoalFits, GoalRewardFits}
 use Rattle.ppddl_grammar.proofs.lemmas.fits.Walks.{Any, any-forms, each-keeps}
+
+-- ---- an item behind facts
+
+all-behind : (p : InitItem → Bool) (i : InitItem) (l : List InitItem) → list_all p l ≡ true → p i ≡ true → list_all p (behind_facts i l) ≡ true
+all-behind p i [] each one = and_from (p i) true one refl
+all-behind p i (tree.Fact x ∷ l) each one =
+    let both = and_parts (p (tree.Fact x)) (list_all p l) each in
+    and_from (p (tree.Fact x)) (list_all p (behind_facts i l)) both.0 (all-behind p i l both.1 one)
+all-behind p i (tree.Chance branches ∷ l) each one = and_from (p i) (list_all p (tree.Chance branches ∷ l)) one each
+all-behind p i (tree.Value v ∷ l) each one = and_from (p i) (list_all p (tree.Value v ∷ l)) one each
+
+each-behind : (P : InitItem → Type 0) (i : InitItem) (l : List InitItem) → All P l → P i → All P (behind_facts i l)
+each-behind P i [] each one = All-cons P i [] one each
+each-behind P i (tree.Fact x ∷ l) each one =
+    All-cons P (tree.Fact x) (behind_facts i l) (All-head P (tree.Fact x) l each) (each-behind P i l (All-tail P (tree.Fact x) l each) one)
+each-behind P i (tree.Chance branches ∷ l) each one = All-cons P i (tree.Chance branches ∷ l) one each
+each-behind P i (tree.Value v ∷ l) each one = All-cons P i (tree.Value v ∷ l) one each
 
 -- ---- the start
 
@@ -51,8 +68,7 @@ module _ (d : Declared) where
 
     item-put : (s : Start) (f : Form) (i : InitItem) → ItemsFit s → item d s.values f ≡ Ok i → ItemsFit (put s i)
     item-put s f (tree.Fact x) fit is =
-        all-both (item_fits w domain) s.items (tree.Fact x ∷ []) fit
-        (and_from (item_fits w domain (tree.Fact x)) true (item-fits d s.values f (tree.Fact x) is refl w domain declared) refl)
+        all-behind (item_fits w domain) (tree.Fact x) s.items fit (item-fits d s.values f (tree.Fact x) is refl w domain declared)
     item-put s f (tree.Chance branches) fit is =
         all-both (item_fits w domain) s.items (tree.Chance branches ∷ []) fit
         (and_from (item_fits w domain (tree.Chance branches)) true (item-fits d s.values f (tree.Chance branches) is refl w domain declared) refl)
@@ -70,7 +86,7 @@ module _ (d : Declared) where
   Draws s = All (EachItemDraw AreProbabilities) s.items
 
   draw-put : (s : Start) (f : Form) (i : InitItem) → Draws s → item d s.values f ≡ Ok i → Draws (put s i)
-  draw-put s f (tree.Fact x) each is = All-push (EachItemDraw AreProbabilities) s.items (tree.Fact x) each (item-draws d s.values f (tree.Fact x) is)
+  draw-put s f (tree.Fact x) each is = each-behind (EachItemDraw AreProbabilities) (tree.Fact x) s.items each (item-draws d s.values f (tree.Fact x) is)
   draw-put s f (tree.Chance branches) each is =
       All-push (EachItemDraw AreProbabilities) s.items (tree.Chance branches) each (item-draws d s.values f (tree.Chance branches) is)
   draw-put s f (tree.Value v) each is = each
