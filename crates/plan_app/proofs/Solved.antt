@@ -1,5 +1,5 @@
 -- What a search found that was reported, of the ground problem and of the task.
-use Rattle.std.proofs.Common.{◌≡◌, ◌≢◌, ℕ, ◌+◌, ◌*◌, ◌^◌, ◌<◌, ◌≤◌, inl, inr, Bool, true, false, List, [], ◌++◌, length, refl, sym, ap, ◌∙◌, subst, arith, Option, Some, None, Result, Ok, Err}
+use Rattle.std.proofs.Common.{◌≡◌, ◌≢◌, ℕ, ◌+◌, ◌-◌, ◌*◌, ◌^◌, ◌<◌, ◌≤◌, inl, inr, Bool, true, false, List, [], ◌++◌, length, refl, sym, ap, ◌∙◌, subst, arith, Option, Some, None, Result, Ok, Err}
 use Rattle.std.specs.Prelude.{◌↔◌, IsTrue}
 use Rattle.std.proofs.Math.Nat.{mul-le-mul_left}
 use Rattle.std.specs.Borrow.{Bor}
@@ -81,6 +81,7 @@ module _ (g : Ground) (effort : Effort) (sizes : Sizes) (c : Content) (x : Solve
     low = found.low;
     high = found.high;
     all_rounds = λ wide. found.all_rounds (not_converged wide);
+    early = found.early;
     plain_is_wide = λ wide.
         subst (λ r. low_after r + effort.gap < high_after r) (found.all_rounds (not_converged wide))
         (wider (low_after x.rounds) c.lower c.upper (high_after x.rounds) effort.gap found.low found.high wide);
@@ -99,6 +100,8 @@ narrow_carried p from d q from' d' depths plain swept most gap rounds lower uppe
   low = subst (λ n. n ≤ lower) (plain (rounds_at is.depth rounds 1)).0 is.low;
   high = subst (λ n. upper ≤ n) (plain (rounds_at is.depth rounds 1)).1 is.high;
   all_rounds = is.all_rounds;
+  early = λ some.
+      same_wide _ _ _ _ gap (plain (rounds_at is.depth (rounds - 1) 1)).0 (plain (rounds_at is.depth (rounds - 1) 1)).1 (is.early some);
   plain_is_wide = λ wide.
       same_wide _ _ _ _ gap (plain (rounds_at is.depth most 1)).0 (plain (rounds_at is.depth most 1)).1 (is.plain_is_wide wide);
 }

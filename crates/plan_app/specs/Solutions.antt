@@ -2,7 +2,8 @@
 --     IsAsNarrowAsPlain p starts den swept most gap rounds lower upper
 --                                   the interval lies within that of plain rounded iteration of as many of the rounds as reach the
 --                                   starts from the swept states; it is wider than the gap only behind the most rounds, and then so is
---                                   that of plain iteration
+--                                   that of plain iteration; with rounds above 0, plain iteration of the rounds before the last is wider
+--                                   than the gap
 --     FindsStates task charges swept rows count
 --                                   so many states of the task were found: they are distinct and can be reached, and those near the
 --                                   starts, to the depth that the swept states reach, and those of the rows are among them
@@ -23,7 +24,7 @@
 --                                   the line of places was solved so, and the report was put
 -- Sources: plain rounded iteration is value iteration from both sides; penalties for dead ends are those of Kolobov, Mausam and Weld
 -- (2012), and the interval is that of BRTDP (McMahan, Likhachev and Gordon 2005).
-use Rattle.std.specs.Prelude.{◌≡◌, ◌≢◌, ◌↔◌, ℕ, ◌+◌, ◌*◌, ◌<◌, ◌≤◌, List, ◌++◌, length, Option, None, Ok, Contains, AllPairs}
+use Rattle.std.specs.Prelude.{◌≡◌, ◌≢◌, ◌↔◌, ℕ, ◌+◌, ◌-◌, ◌*◌, ◌<◌, ◌≤◌, List, ◌++◌, length, Option, None, Ok, Contains, AllPairs}
 use Rattle.std.specs.List.{AllByRecursion}
 use Rattle.std.specs.Io.KnownBytes.{Appends}
 use Rattle.shelf_io.specs.Shelf.{Told, Holds}
@@ -71,6 +72,8 @@ module _ {S A : Type 0} (p : Process S A) (starts : List (Start S)) (den : ℕ) 
     pub low : plain_low p starts den (rounds_at depth rounds 1) ≤ lower
     pub high : upper ≤ plain_high p starts den (rounds_at depth rounds 1)
     pub all_rounds : lower + gap < upper → rounds ≡ most
+    pub early : 0 < rounds
+        → plain_low p starts den (rounds_at depth (rounds - 1) 1) + gap < plain_high p starts den (rounds_at depth (rounds - 1) 1)
     pub plain_is_wide : lower + gap < upper
         → plain_low p starts den (rounds_at depth most 1) + gap < plain_high p starts den (rounds_at depth most 1)
 

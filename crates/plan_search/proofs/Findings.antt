@@ -161,6 +161,7 @@ module _ (g : Ground) (effort : Effort) (sizes : Sizes) (left : Closing) (c : Co
     fits = solved.fits;
     low = subst (λ n. plain_low (ground_process g) (ground_starts g) g.start_den (rounds_at solved.depth left.rounds 1) ≤ n) (sym certified.lower) solved.low;
     high = subst (λ n. n ≤ plain_high (ground_process g) (ground_starts g) g.start_den (rounds_at solved.depth left.rounds 1)) (sym certified.upper) solved.high;
+    early = solved.early;
     states = map state_of rows;
     count = sym (length-map rows state_of);
     distinct = states_differ rows solved.closing.distinct;

@@ -1,11 +1,13 @@
 -- What a search of a ground problem finds, whatever its workers race for: a certificate, and what is told beside it.
 --     IsFound g effort sizes c s    c is a balanced certificate of the problem, and s tells of the same search: the interval of c, how
 --                                   the search ended, its rounds, and how many states it found.
---                                   It ended early exactly where the interval is as narrow as was asked for; the interval lies within
---                                   that of as many rounds of plain iteration as fit the swept depth; the states found are distinct and
---                                   can be reached, and those near the starts and those of the certificate's rows are among them
+--                                   It converged exactly where the interval is as narrow as was asked for, and else all rounds were made;
+--                                   with rounds above 0, plain iteration of the rounds before the last is wider than that; the interval
+--                                   lies within that of as many rounds of plain iteration as fit the swept depth; the states found are
+--                                   distinct and can be reached, and those near the starts and those of the certificate's rows are among
+--                                   them
 -- Source: anytime bounds by BRTDP (McMahan, Likhachev and Gordon 2005), as certificates (decision_process).
-use Rattle.std.specs.Prelude.{◌≡◌, ◌≢◌, ◌↔◌, ℕ, ◌+◌, ◌<◌, ◌≤◌, List, length, Option, Contains, AllPairs}
+use Rattle.std.specs.Prelude.{◌≡◌, ◌≢◌, ◌↔◌, ℕ, ◌+◌, ◌-◌, ◌<◌, ◌≤◌, List, length, Option, Contains, AllPairs}
 use Rattle.decision_process.specs.Levels.{IsReachable, IsDepthWithin}
 use Rattle.decision_process.specs.Readings.{Row}
 use Rattle.decision_process.specs.Rounded.{plain_low, plain_high}
@@ -37,6 +39,9 @@ pub record IsFound (g : Ground) (effort : Effort) (sizes : Sizes) (c : Content) 
       ≤ c.lower
   pub high : c.upper
       ≤ plain_high (ground_process g) (ground_starts g) g.start_den (rounds_at depth s.rounds 1)
+  pub early : 0 < s.rounds
+      → plain_low (ground_process g) (ground_starts g) g.start_den (rounds_at depth (s.rounds - 1) 1) + effort.gap
+      < plain_high (ground_process g) (ground_starts g) g.start_den (rounds_at depth (s.rounds - 1) 1)
   -- which states were found
   pub states : List State
   pub count : s.states ≡ length states

@@ -25,7 +25,7 @@ part_is_taken b e v w k x y stays swept tried of = record {
   tried = record {
     fit = fit_still b e.depth w (Some y) tried.fit;
     stays = stays_again b v.pass k w.pass stays tried.stays;
-    trials = λ later. let s = tried.trials later in record { run = s.run; shown = s.shown; is = s.is; known = s.known };
+    trials = λ later. let s = tried.trials later in record { run = s.run; shown = s.shown; is = s.is; trial = s.trial; known = s.known };
   };
   swept = swept_more b.problem v.first_id v.past_id v.pass.view k.view w.pass.view tried.stays.noted swept;
 }

@@ -1,5 +1,6 @@
 -- The loop of rounds, with a reading of the means behind each.
-use Rattle.std.proofs.Common.{◌≡◌, ℕ, ◌+◌, ◌-◌, ◌<◌, ◌≤◌, Option, List, [], ◌∷◌, length, get_or, slice_set, refl, subst, arith}
+use Rattle.std.proofs.Common.{◌≡◌, ℕ, ◌+◌, ◌-◌, ◌<◌, ◌≤◌, Option, List, [], ◌∷◌, length, get_or, slice_set, refl, subst, arith, inl, inr}
+use Rattle.std.proofs.lemmas.Bool.{cases_lt}
 use Rattle.decision_process.proofs.lemmas.sweeps.Rounds.{means_have_rounds}
 use Rattle.ground_model.specs.Packed.{State}
 use Rattle.ground_model.specs.Ground.{Ground}
@@ -16,7 +17,7 @@ use Rattle.trial_workers.specs.declared.worker.Worker.{Worker}
 use Rattle.trial_workers.specs.Workers.{Stays, HasListed}
 use Rattle.trial_workers.specs.Crews.{IsCrewOf, FirstHas, IsListed, HaveStayed, HaveTrials, HasReadMeans, FirstReads}
 use Rattle.trial_workers.specs.Rounds.{with_pass}
-use Rattle.trial_workers.specs.Effort.{HaveRounds, IsWithinPlain, FirstHasSeen, FirstIsWithin}
+use Rattle.trial_workers.specs.Effort.{HaveRounds, IsWithinPlain, IsPlainWide, FirstHasSeen, FirstIsWithin}
 use Rattle.trial_workers.proofs.Rounding.{first_stays, first_is_crew, first_trials, stayed_again}
 use Rattle.trial_workers.proofs.Counting.{rounds_stay, no_rounds}
 
@@ -33,7 +34,7 @@ module _ (b : Board) (m : Means) where
   reads_stay depth (o ∷ os) [] crew r = absurd r
   reads_stay depth (o ∷ os) (n ∷ ns) crew r = first_stays b depth o n os ns crew.each r.0 r.2
 
-  pub reads_have_trials : (e : Effort) (number : ℕ) (os ns : List Worker) → FirstReads b os ns m → HaveTrials e number os → HaveTrials e number ns
+  pub reads_have_trials : (e : Effort) (number : ℕ) (os ns : List Worker) → FirstReads b os ns m → HaveTrials b e number os → HaveTrials b e number ns
   reads_have_trials e number [] ns r trials = absurd r
   reads_have_trials e number (o ∷ os) [] r trials = absurd r
   reads_have_trials e number (o ∷ os) (n ∷ ns) r trials = first_trials e number b o n os ns r.0 r.1 r.2 trials
@@ -79,15 +80,24 @@ reads_idle b gap m [] ns read within = absurd read
 reads_idle b gap m (o ∷ os) [] read within = absurd read
 reads_idle b gap m (o ∷ os) (n ∷ ns) read within = omega (arith, within, read.3.means.lower_since, read.3.means.upper_since)
 
+-- a reading that is too wide is no wider than plain iteration
+plain_is_wide : (b : Board) (x : Extent) (gap r : ℕ) (m : Means) → IsWithinPlain b.problem x.depth (answer r m)
+    → (m.upper ≤ m.lower + gap → ⊥) → IsPlainWide b.problem x.depth gap r
+plain_is_wide b x gap r m plain wide = elim (cases_lt (m.lower + gap) m.upper) [
+  | inl apart ↦ omega (arith, apart, plain.lower, plain.upper)
+  | inr near ↦ absurd (wide near)
+]
+
 -- ---- after some rounds, and a reading behind them
 
 pub record Solving (b : Board) (e : Effort) (states : List State) (x : Extent) (old now : List Worker) (r : ℕ) (m : Means) : Type 0 where
   pub crew : IsCrewOf b e.depth now
   pub has : FirstHas states now
   pub stayed : HaveStayed b old now
-  pub trials : 0 < r → HaveTrials e (r - 1) now
+  pub trials : 0 < r → HaveTrials b e (r - 1) now
   pub rounds : HaveRounds b.problem x.depth r now
   pub plain : IsWithinPlain b.problem x.depth (answer r m)
+  pub early : 0 < r → IsPlainWide b.problem x.depth e.gap (r - 1)
   pub seen : FirstHasSeen b.problem (answer r m) now
   pub idle : FirstIsWithin b.problem e.gap old → (r ≡ 0) × (m.upper ≤ m.lower + e.gap)
 
@@ -102,12 +112,13 @@ module _ (b : Board) (e : Effort) (states : List State) (x : Extent) (listed : I
         trials = λ some. absurd (omega arith);
         rounds = rounds_have_stayed b b.problem x.depth 0 os ns stayed none;
         plain = reads_within b states x listed 0 m os ns read none;
+        early = λ some. absurd (omega arith);
         seen = reads_seen b states x listed 0 m os ns read;
         idle = λ within. (refl, reads_idle b e.gap m os ns read within);
       }
 
   pub solving_goes_on : (old now mid new : List Worker) (r : ℕ) (m m' : Means) → Solving b e states x old now r m → (m.upper ≤ m.lower + e.gap → ⊥) → IsCrewOf b e.depth mid → HaveStayed b now mid
-      → HaveTrials e r mid → ((n : ℕ) → HaveRounds b.problem x.depth n now → HaveRounds b.problem x.depth (n + 1) mid) → FirstReads b mid new m'
+      → HaveTrials b e r mid → ((n : ℕ) → HaveRounds b.problem x.depth n now → HaveRounds b.problem x.depth (n + 1) mid) → FirstReads b mid new m'
       → Solving b e states x old new (r + 1) m'
   solving_goes_on old now mid new r m m' so wide crew stayed trials rounds read =
       let read_stayed = reads_stay b m' e.depth mid new crew read in
@@ -116,9 +127,10 @@ module _ (b : Board) (e : Effort) (states : List State) (x : Extent) (listed : I
         crew = reads_is_crew b m' e.depth mid new crew read;
         has = first_has_more b states mid new read_stayed (first_has_more b states now mid stayed so.has);
         stayed = stayed_again b old mid new (stayed_again b old now mid so.stayed stayed) read_stayed;
-        trials = λ some. subst (λ n. HaveTrials e n new) last (reads_have_trials b m' e r mid new read trials);
+        trials = λ some. subst (λ n. HaveTrials b e n new) last (reads_have_trials b m' e r mid new read trials);
         rounds = rounds_have_stayed b b.problem x.depth (r + 1) mid new read_stayed more;
         plain = reads_within b states x listed (r + 1) m' mid new read more;
+        early = λ some. subst (IsPlainWide b.problem x.depth e.gap) last (plain_is_wide b x e.gap r m so.plain wide);
         seen = reads_seen b states x listed (r + 1) m' mid new read;
         idle = λ within. absurd (wide (so.idle within).1);
       }

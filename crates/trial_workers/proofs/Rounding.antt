@@ -1,5 +1,5 @@
 -- The parts of a round, one behind the other.
-use Rattle.std.proofs.Common.{◌≡◌, ℕ, zero, suc, ◌+◌, ◌*◌, ◌/◌, ◌<◌, ◌≤◌, Some, List, [], ◌∷◌, length, get_or, All, refl, sym, ap, ◌∙◌, subst, arith}
+use Rattle.std.proofs.Common.{◌≡◌, ℕ, zero, suc, ◌+◌, ◌-◌, ◌*◌, ◌/◌, ◌<◌, ◌≤◌, Some, List, [], ◌∷◌, length, get_or, All, refl, sym, ap, ◌∙◌, subst, arith}
 use Rattle.std.specs.List.{slice_get, AllZip}
 use Rattle.std.proofs.lemmas.List.Elements.{AllZip-get_or, length_all_zip}
 use Rattle.std.proofs.lemmas.Option.{slice_get_within, get_or_from_slice_get}
@@ -11,11 +11,14 @@ use Rattle.word_table.specs.view.Views.{knows}
 use Rattle.word_table.specs.view.Laws.{HasMore}
 use Rattle.word_table.specs.Seen.{Board, Knowledge}
 use Rattle.brtdp_trial.specs.declared.turn.Turn.{Turn}
+use Rattle.brtdp_trial.specs.Paths.{PathView}
+use Rattle.bellman_backup.specs.Races.{has_more_again}
 use Rattle.bellman_backup.specs.Backups.{Narrows}
 use Rattle.trial_workers.specs.declared.effort.Effort.{Effort}
 use Rattle.trial_workers.specs.declared.parts.Division.{Division}
 use Rattle.trial_workers.specs.declared.worker.Worker.{Worker}
 use Rattle.trial_workers.specs.Parts.{share_of, with_part, IsDivision}
+use Rattle.trial_workers.specs.Trials.{IsSeededTrial}
 use Rattle.trial_workers.specs.Workers.{Stays, IsFit, IsWorkerOf, ShowsTrials, CanTakePart, HasTakenPart}
 use Rattle.trial_workers.specs.Rounds.{CanMeet, with_pass, IsPrepared, ArePrepared, AllPrepared, HasHeard, HaveMet}
 use Rattle.trial_workers.specs.Crews.{IsCrewOf, HaveStayed, HasTrials, HaveTrials}
@@ -170,32 +173,43 @@ first_is_crew b depth s n ss ns crew stays part same = record {
       (subst (All (IsWorkerOf b depth)) (sym same) (tail_all (IsWorkerOf b depth) s ss crew.each));
 }
 
+trial_noted : (b : Board) (e : Effort) (number : ℕ) (v w : View) (p : PathView) → HasMore v w → IsSeededTrial b e number v p → IsSeededTrial b e number w p
+trial_noted b e number v w p more is = record {
+  from = is.from;
+  to = is.to;
+  over = is.over;
+  noted = has_more_again is.to.pass.view v w is.noted more;
+  end = is.end;
+  is = is.is;
+}
+
 -- a worker that learns more shows the same trials
-shows_more : (e : Effort) (first past : ℕ) (s n : Worker) → n ≡ with_pass n.pass s → HasMore s.pass.view n.pass.view → ShowsTrials e first past s → ShowsTrials e first past n
-shows_more e first past s n part more shows =
+shows_more : (b : Board) (e : Effort) (first past : ℕ) (s n : Worker) → n ≡ with_pass n.pass s → HasMore s.pass.view n.pass.view → ShowsTrials b e first past s → ShowsTrials b e first past n
+shows_more b e first past s n part more shows =
     let path = ap (λ (w : Worker). w.path) part in record {
       run = shows.run;
       shown = ap (λ (w : Worker). w.path.run) part ∙ shows.shown;
       is = shows.is;
+      trial = subst (IsSeededTrial b e (past - 1) n.pass.view) (sym path) (trial_noted b e (past - 1) s.pass.view n.pass.view s.path more shows.trial);
       known = subst (λ p. All (λ (t : Turn). knows n.pass.view t.id) p.turns) (sym path) (λ k d below. more.known (get_or s.path.turns k d).id (shows.known k d below));
     }
 
 pub first_trials : (e : Effort) (number : ℕ) (b : Board) (s n : Worker) (ss ns : List Worker) → Stays b s.pass n.pass → n ≡ with_pass n.pass s → ns ≡ ss
-    → HaveTrials e number (s ∷ ss) → HaveTrials e number (n ∷ ns)
+    → HaveTrials b e number (s ∷ ss) → HaveTrials b e number (n ∷ ns)
 first_trials e number b s n ss ns stays part same trials zero w at =
     let is : n ≡ w = some_is n w at in
     let count : length (s ∷ ss) ≡ length (n ∷ ns) = ap (λ (l : List Worker). suc (length l)) (sym same) in
-    λ later. subst (ShowsTrials e _ _) is (shows_more e _ _ s n part stays.noted (subst (λ c. HasTrials e number c 0 s) count (trials 0 s refl) later))
+    λ later. subst (ShowsTrials b e _ _) is (shows_more b e _ _ s n part stays.noted (subst (λ c. HasTrials b e number c 0 s) count (trials 0 s refl) later))
   where
     some_is : (x y : Worker) → Some x ≡ Some y → x ≡ y
     some_is x y same = cc
 first_trials e number b s n ss ns stays part same trials (suc i) w at =
     let count : length (s ∷ ss) ≡ length (n ∷ ns) = ap (λ (l : List Worker). suc (length l)) (sym same) in
-    subst (λ c. HasTrials e number c (suc i) w) count (trials (suc i) w (subst (λ l. slice_get l i ≡ Some w) same at))
+    subst (λ c. HasTrials b e number c (suc i) w) count (trials (suc i) w (subst (λ l. slice_get l i ≡ Some w) same at))
 
 module _ (b : Board) (d : Division) (e : Effort) (number : ℕ) (first : d.first_trial ≡ number * e.trials) (items : d.trials ≡ e.trials) (v : View)
     (os ms ss : List Worker) (count : length os ≡ d.workers) (a : ArePrepared b d v os ms) (z : AllZip (HasTakenPart b e) ms ss) where
-  parts_have_trials : HaveTrials e number ss
+  parts_have_trials : HaveTrials b e number ss
   parts_have_trials i w at =
       let long = a.long in let long' = length_all_zip (HasTakenPart b e) ms ss z in
       let inside : i < length ss = slice_get_within ss i w at in
@@ -206,9 +220,9 @@ module _ (b : Board) (d : Division) (e : Effort) (number : ℕ) (first : d.first
       ap (λ (x : Worker). x.first_trial) p.part ∙ (λ j. first j + share_of (items j) (workers j) i) in
       let past : (get_or ms i w).past_trial ≡ number * e.trials + share_of e.trials (length ss) (i + 1) =
       ap (λ (x : Worker). x.past_trial) p.part ∙ (λ j. first j + share_of (items j) (workers j) (i + 1)) in
-      let shown : (get_or ms i w).first_trial < (get_or ms i w).past_trial → ShowsTrials e (get_or ms i w).first_trial (get_or ms i w).past_trial w = done.tried.trials in
-      λ later. subst (λ n. ShowsTrials e n (number * e.trials + share_of e.trials (length ss) (i + 1)) w) from
-      (subst (λ n. ShowsTrials e (get_or ms i w).first_trial n w) past (shown (omega arith)))
+      let shown : (get_or ms i w).first_trial < (get_or ms i w).past_trial → ShowsTrials b e (get_or ms i w).first_trial (get_or ms i w).past_trial w = done.tried.trials in
+      λ later. subst (λ n. ShowsTrials b e n (number * e.trials + share_of e.trials (length ss) (i + 1)) w) from
+      (subst (λ n. ShowsTrials b e (get_or ms i w).first_trial n w) past (shown (omega arith)))
 
 -- ---- the whole round
 
@@ -228,7 +242,7 @@ FirstNarrows b swept (o ∷ os) [] = ⊥
 pub record RoundDone (b : Board) (d : Division) (e : Effort) (number : ℕ) (os ns : List Worker) : Type 0 where
   pub crew : IsCrewOf b e.depth ns
   pub stayed : HaveStayed b os ns
-  pub trials : HaveTrials e number ns
+  pub trials : HaveTrials b e number ns
   pub swept : FirstNarrows b d.swept os ns
 
 module _ (b : Board) (d : Division) (e : Effort) (number : ℕ) (first : d.first_trial ≡ number * e.trials) (items : d.trials ≡ e.trials) where

@@ -1,5 +1,5 @@
 -- A worker's trials, one after another.
-use Rattle.std.proofs.Common.{◌≡◌, ℕ, ◌+◌, ◌<◌, ◌≤◌, ◌==◌, ◌&&◌, Bool, true, false, cond, Option, Some, None, refl, sym, ap, ◌∙◌, subst, arith, inl, inr}
+use Rattle.std.proofs.Common.{◌≡◌, ℕ, ◌+◌, ◌-◌, ◌<◌, ◌≤◌, ◌==◌, ◌&&◌, Bool, true, false, cond, Option, Some, None, refl, sym, ap, ◌∙◌, subst, arith, inl, inr}
 use Rattle.std.proofs.lemmas.Bool.{cases_Bool, cases_lt, eq-eqb, eqb-true, and_from, and_parts}
 use Rattle.word_table.specs.Seen.{Board, Knowledge}
 use Rattle.brtdp_trial.specs.declared.run.Run.{Run}
@@ -8,7 +8,8 @@ use Rattle.brtdp_trial.specs.Paths.{PathView}
 use Rattle.bellman_backup.specs.Scratches.{ScratchView, IsScratchOf}
 use Rattle.trial_workers.specs.declared.effort.Effort.{Effort}
 use Rattle.trial_workers.specs.declared.worker.Worker.{Worker}
-use Rattle.trial_workers.specs.Workers.{Stays, IsRun, IsRunOf, ShowsTrials, HasTurnsKnown, CanTry}
+use Rattle.trial_workers.specs.Trials.{IsSeededTrial}
+use Rattle.trial_workers.specs.Workers.{Stays, IsRun, IsRunOf, ShowsTrials, HasTurnsKnown, CanTry, HasTried}
 use Rattle.trial_workers.proofs.Passes.{stays_again}
 
 -- ---- runs
@@ -97,15 +98,15 @@ pub record Trying (b : Board) (e : Effort) (v w : Worker) (x : ScratchView) (n :
   pub part : (w.first_trial ≡ v.first_trial) × (w.past_trial ≡ v.past_trial)
   pub from : v.first_trial ≤ n
   pub within : v.first_trial < v.past_trial → n ≤ v.past_trial
-  pub trials : v.first_trial < n → ShowsTrials e v.first_trial n w
+  pub trials : v.first_trial < n → ShowsTrials b e v.first_trial n w
 
 abbrev with_trial : Worker → Knowledge → PathView → Worker
 with_trial w k p = record w { pass = k; path = p }
 
 pub one_trial_more : (b : Board) (e : Effort) (v w : Worker) (x : ScratchView) (k : Knowledge) (y : ScratchView) (p : PathView) (n : ℕ) → Trying b e v w x n → n < v.past_trial
-    → Stays b w.pass k → IsScratchOf b y → p.room ≡ w.path.room → p.run ≡ Some (next_run w.path.run n e.seed e.tau) → HasTurnsKnown k.view p
+    → Stays b w.pass k → IsScratchOf b y → p.room ≡ w.path.room → p.run ≡ Some (next_run w.path.run n e.seed e.tau) → IsSeededTrial b e n k.view p → HasTurnsKnown k.view p
     → Trying b e v (with_trial w k p) y (n + 1)
-one_trial_more b e v w x k y p n so below stays of room run known =
+one_trial_more b e v w x k y p n so below stays of room run trial known =
     let old = so.can.fit in
     let rises : IsRun (next_run w.path.run n e.seed e.tau) = next_is_run w.path.run n e.seed e.tau old.run in
     let so_far : SoFar e v.first_trial n w.path.run = λ later. let t = so.trials later in (t.run, t.shown, t.is) in record {
@@ -127,6 +128,17 @@ one_trial_more b e v w x k y p n so below stays of room run known =
         run = next_run w.path.run n e.seed e.tau;
         shown = run;
         is = run_goes_on e v.first_trial n so.from w.path.run old.run so_far;
+        trial = subst (λ m. IsSeededTrial b e m k.view p) (let last : n ≡ n + 1 - 1 = omega arith in last) trial;
         known = known;
       };
     }
+
+-- no number of the worker's part is left
+pub all_tried : (b : Board) (e : Effort) (v w : Worker) (x : ScratchView) (n : ℕ) → Trying b e v w x n → v.past_trial ≤ n → HasTried b e v w
+all_tried b e v w x n so past = record {
+  fit = so.can.fit;
+  stays = so.stays;
+  trials = λ some.
+      let end : n ≡ v.past_trial = (let within = so.within some in omega arith) in
+      subst (λ m. ShowsTrials b e v.first_trial m w) end (so.trials (omega arith));
+}

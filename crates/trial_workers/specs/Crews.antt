@@ -12,7 +12,7 @@
 --                                what they need beside their passes, with these transitions near the starts
 --     IsFirstPass ws k           k is the pass of worker 0
 --     HaveStayed b os ns         each worker has noted all that it had noted, and has the same rights
---     HaveTrials e number ws     each worker that has trials in the round of this number shows them
+--     HaveTrials b e number ws   each worker that has trials in the round of this number shows them
 --     HasReadMeans b v w m       the means are between what v and w have seen, over a problem within its limits
 --     FirstReads b os ns m       worker 0 has read the means of the starts' bounds; nothing else is changed
 use Rattle.std.specs.Prelude.{◌≡◌, ℕ, ◌+◌, ◌*◌, ◌<◌, ◌≤◌, Some, List, [], ◌∷◌, length, All}
@@ -110,13 +110,13 @@ HaveStayed b os ns = AllZip (λ (o n : Worker). Stays b o.pass n.pass) os ns
 abbrev pub trial_at : Effort → ℕ → ℕ → ℕ → ℕ
 trial_at e number workers i = number * e.trials + share_of e.trials workers i
 
-abbrev pub HasTrials : Effort → ℕ → ℕ → ℕ → Worker → Type 0
-HasTrials e number workers i w = let first = trial_at e number workers i in
-    let past = trial_at e number workers (i + 1) in first < past → ShowsTrials e first past w
+abbrev pub HasTrials : Board → Effort → ℕ → ℕ → ℕ → Worker → Type 0
+HasTrials b e number workers i w = let first = trial_at e number workers i in
+    let past = trial_at e number workers (i + 1) in first < past → ShowsTrials b e first past w
 
-abbrev pub HaveTrials : Effort → ℕ → List Worker → Type 0
-HaveTrials e number ws = (i : ℕ) (w : Worker) → slice_get ws i ≡ Some w
-    → HasTrials e number (length ws) i w
+abbrev pub HaveTrials : Board → Effort → ℕ → List Worker → Type 0
+HaveTrials b e number ws = (i : ℕ) (w : Worker) → slice_get ws i ≡ Some w
+    → HasTrials b e number (length ws) i w
 
 pub record HasReadMeans (b : Board) (v w : View) (m : Means) : Type 0 where
   pub problem : IsGroundProblem b.problem

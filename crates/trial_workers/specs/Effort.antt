@@ -3,9 +3,10 @@
 --                                as they fit the depth
 --     HaveRounds g depth r ws    worker 0 has
 --     IsWithinPlain g depth s    the answer is no wider than the interval of as many rounds
+--     IsPlainWide g depth gap r  the interval of so many rounds of plain iteration is wider than the gap
 --     FirstHasSeen g s ws        the means of what worker 0 has seen are no wider than the answer
 --     FirstIsWithin g gap ws     the means of what worker 0 has seen differ by at most the gap
-use Rattle.std.specs.Prelude.{ℕ, ◌+◌, ◌≤◌, Option, List, [], ◌∷◌}
+use Rattle.std.specs.Prelude.{ℕ, ◌+◌, ◌<◌, ◌≤◌, Option, List, [], ◌∷◌}
 use Rattle.decision_process.specs.Rounded.{plain_low, plain_high}
 use Rattle.decision_process.specs.sweeps.Sweeps.{rounds_at, HasRounds}
 use Rattle.ground_model.specs.Ground.{Ground}
@@ -29,6 +30,11 @@ pub record IsWithinPlain (g : Ground) (depth : Option ℕ) (s : Solved) : Type 0
       ≤ s.lower
   pub upper : s.upper
       ≤ plain_high (ground_process g) (ground_starts g) g.start_den (rounds_at depth s.rounds 1)
+
+abbrev pub IsPlainWide : Ground → Option ℕ → ℕ → ℕ → Type 0
+IsPlainWide g depth gap r =
+    plain_low (ground_process g) (ground_starts g) g.start_den (rounds_at depth r 1) + gap
+    < plain_high (ground_process g) (ground_starts g) g.start_den (rounds_at depth r 1)
 
 abbrev pub FirstHasSeen : Ground → Solved → List Worker → Type 0
 FirstHasSeen g s [] = ⊥

@@ -1,4 +1,5 @@
 pub mod Parts
+pub mod Trials
 pub mod Workers
 pub mod Rounds
 pub mod Crews

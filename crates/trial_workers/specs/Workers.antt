@@ -7,11 +7,13 @@
 --     HasTurnsKnown v p          the view knows the ids of the path's turns
 --     IsFit b depth w            a pass over these words, and a path for trials of so many turns
 --     IsWorkerOf b depth w       a worker over these words, for trials of so many turns
---     ShowsTrials e first past w its path ends a run that contains the trials from first up to below past and ends with the last of them,
---                                with the seed and the tau of the effort; it knows the ids of that one's turns
+--     ShowsTrials b e first past w
+--                                its path ends a run that contains the trials from first up to below past and ends with the last of them,
+--                                with the seed and the tau of the effort; it shows that one, and the worker has noted what its bounds
+--                                have, and knows the ids of its turns
 --     CanTry, CanTakePart        it knows the starts, and the ids that it is to back up
 --     HasTried, HasTakenPart     what it has done
-use Rattle.std.specs.Prelude.{◌≡◌, ℕ, ◌+◌, ◌<◌, ◌≤◌, IsTrue, Some, List, length, All}
+use Rattle.std.specs.Prelude.{◌≡◌, ℕ, ◌+◌, ◌-◌, ◌<◌, ◌≤◌, IsTrue, Some, List, length, All}
 use Rattle.std.specs.List.{slice_get}
 use Rattle.ground_model.specs.Packed.{State}
 use Rattle.ground_model.specs.Ground.{Ground}
@@ -26,6 +28,7 @@ use Rattle.bellman_backup.specs.Scratches.{ScratchView, IsScratchOf}
 use Rattle.bellman_backup.specs.Backups.{Narrows}
 use Rattle.trial_workers.specs.declared.effort.Effort.{Effort}
 use Rattle.trial_workers.specs.declared.worker.Worker.{Worker}
+use Rattle.trial_workers.specs.Trials.{IsSeededTrial}
 
 pub record Stays (b : Board) (k l : Knowledge) : Type 0 where
   pub here : IsOf b l
@@ -63,10 +66,11 @@ pub record IsRunOf (e : Effort) (first past : ℕ) (r : Run) : Type 0 where
   pub seed : r.seed ≡ e.seed
   pub tau : r.tau ≡ e.tau
 
-pub record ShowsTrials (e : Effort) (first past : ℕ) (w : Worker) : Type 0 where
+pub record ShowsTrials (b : Board) (e : Effort) (first past : ℕ) (w : Worker) : Type 0 where
   pub run : Run
   pub shown : w.path.run ≡ Some run
   pub is : IsRunOf e first past run
+  pub trial : IsSeededTrial b e (past - 1) w.pass.view w.path
   pub known : HasTurnsKnown w.pass.view w.path
 
 pub record CanTry (b : Board) (depth : ℕ) (w : Worker) : Type 0 where
@@ -76,7 +80,7 @@ pub record CanTry (b : Board) (depth : ℕ) (w : Worker) : Type 0 where
 pub record HasTried (b : Board) (e : Effort) (v w : Worker) : Type 0 where
   pub fit : IsFit b e.depth w
   pub stays : Stays b v.pass w.pass
-  pub trials : v.first_trial < v.past_trial → ShowsTrials e v.first_trial v.past_trial w
+  pub trials : v.first_trial < v.past_trial → ShowsTrials b e v.first_trial v.past_trial w
 
 pub record CanTakePart (b : Board) (e : Effort) (w : Worker) : Type 0 where
   pub deep : 1 ≤ e.depth

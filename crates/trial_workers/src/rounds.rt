@@ -30,7 +30,7 @@ fn round_of<R: Threads + Sync, G: Gate>(
     requires near { IsNear words.now.problem extent.now workers.old }
     ensures crew { IsCrewOf words.now effort.now.depth workers.new }
     ensures stayed { HaveStayed words.now workers.old workers.new }
-    ensures trials { HaveTrials effort.now number workers.new }
+    ensures trials { HaveTrials words.now effort.now number workers.new }
     ensures rounds { (r : ℕ) → HaveRounds words.now.problem extent.now.depth r workers.old
         → HaveRounds words.now.problem extent.now.depth (r + 1) workers.new }
 {
@@ -62,7 +62,7 @@ pub fn round<R: Threads + Sync, G: Gate>(
     requires near { IsNear words.now.problem extent.now crew.old }
     ensures crew { IsCrewOf words.now effort.now.depth crew.new }
     ensures stayed { HaveStayed words.now crew.old crew.new }
-    ensures trials { HaveTrials effort.now number crew.new }
+    ensures trials { HaveTrials words.now effort.now number crew.new }
     ensures rounds { (r : ℕ) → HaveRounds words.now.problem extent.now.depth r crew.old
         → HaveRounds words.now.problem extent.now.depth (r + 1) crew.new }
 {

@@ -3,7 +3,7 @@
 ghost use Rattle.std.specs.Prelude.{◌≡◌, ◌≤◌, ◌<◌, ◌+◌, ◌-◌, ◌⊎◌};
 ghost use Rattle.trial_workers.specs.Crews.{IsCrewOf, IsNear, HaveStayed, HaveTrials};
 ghost use Rattle.trial_workers.specs.Crews.{FirstReads};
-ghost use Rattle.trial_workers.specs.Effort.{HaveRounds, IsWithinPlain, FirstHasSeen};
+ghost use Rattle.trial_workers.specs.Effort.{HaveRounds, IsWithinPlain, IsPlainWide, FirstHasSeen};
 ghost use Rattle.trial_workers.specs.Effort.{FirstIsWithin};
 
 use crate::crew::Crew;
@@ -44,7 +44,8 @@ fn read(words: &Words<'_>, crew: &mut Crew<'_>, extent: &Extent, effort: &Effort
 /// means as near before. It takes no memory.
 ///
 /// Whatever the workers race for, worker 0 has afterwards seen for each state near the starts at least what as
-/// many rounds of plain iteration bring, as far as they fit the swept depth.
+/// many rounds of plain iteration bring, as far as they fit the swept depth. With rounds above 0, plain iteration of the
+/// rounds before the last is wider than the gap.
 pub fn solve_words<R: Threads + Sync, G: Gate>(
     rt: &R,
     words: &Words<'_>,
@@ -61,7 +62,10 @@ pub fn solve_words<R: Threads + Sync, G: Gate>(
     ensures end { (result.upper ≤ result.lower + effort.now.gap)
         ⊎ (result.rounds ≡ effort.now.rounds) }
     ensures most { result.rounds ≤ effort.now.rounds }
-    ensures trials { 0 < result.rounds → HaveTrials effort.now (result.rounds - 1) crew.new }
+    ensures early { 0 < result.rounds → IsPlainWide words.now.problem extent.now.depth
+        effort.now.gap (result.rounds - 1) }
+    ensures trials { 0 < result.rounds
+        → HaveTrials words.now effort.now (result.rounds - 1) crew.new }
     ensures rounds { HaveRounds words.now.problem extent.now.depth result.rounds crew.new }
     ensures plain { IsWithinPlain words.now.problem extent.now.depth result }
     ensures seen { FirstHasSeen words.now.problem result crew.new }

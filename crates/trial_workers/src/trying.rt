@@ -4,6 +4,7 @@ ghost use Rattle.std.specs.Prelude.{◌≡◌, ◌≤◌, Some};
 ghost use Rattle.brtdp_trial.specs.Runs.{next_run};
 ghost use Rattle.bellman_backup.specs.Scratches.{IsScratchOf};
 ghost use Rattle.bellman_backup.specs.Races.{IsReady};
+ghost use Rattle.trial_workers.specs.Trials.{IsSeededTrial};
 ghost use Rattle.trial_workers.specs.Workers.{Stays, HasTurnsKnown, CanTry, HasTried};
 
 use crate::effort::Effort;
@@ -31,6 +32,7 @@ fn race<'p>(
     ensures room { path.new.room ≡ path.old.room }
     ensures run { let e = effort.now
         in path.new.run ≡ Some (next_run path.old.run number e.seed e.tau) }
+    ensures trial { IsSeededTrial words.now effort.now number pass.new.view path.new }
     ensures known { HasTurnsKnown pass.new.view path.new }
 {
     // While the bounds have the pass, a copy without rights stands in its place.

@@ -6,7 +6,7 @@ ghost use Rattle.ground_model.specs.Packed.{State};
 ghost use Rattle.word_table.specs.Seen.{IsOf};
 ghost use Rattle.bellman_backup.specs.Kept.{KeepsStates};
 ghost use Rattle.trial_workers.specs.Workers.{HasListed};
-ghost use Rattle.trial_workers.specs.Crews.{IsCrewOf, FirstHas};
+ghost use Rattle.trial_workers.specs.Crews.{IsCrewOf, IsNewCrew, FirstHas};
 ghost use Rattle.trial_workers.specs.declared.crew.TheConstants.{MOST_WORKERS};
 ghost use Rattle.plan_search.specs.solver.Opened.{AreSizes, IsOpened, room_for};
 
@@ -102,6 +102,7 @@ pub fn make_crew<'p>(
     requires index { arc_value index.now ≡ words.now.problem }
     requires near { KeepsStates words.now.problem pass.view (arc_value near.now) }
     requires workers { (1 ≤ workers) × (workers ≤ MOST_WORKERS) }
+    ensures made { IfOk result (IsNewCrew words.now.problem pass workers depth) }
     ensures crew { IfOk result (IsCrewOf words.now depth) }
     ensures has { (states : List State) → HasListed states pass.view
         → IfOk result (FirstHas states) }

@@ -1,6 +1,7 @@
 -- From the rounds to the answer.
-use Rattle.std.proofs.Common.{◌≡◌, ⊎_elim, ℕ, ◌+◌, ◌≤◌, Some, List, [], ◌∷◌, take, refl, sym, subst, inl, inr, arith}
+use Rattle.std.proofs.Common.{◌≡◌, ⊎_elim, ℕ, ◌+◌, ◌≤◌, Some, List, [], ◌∷◌, length, take, refl, sym, subst, inl, inr, arith}
 use Rattle.std.specs.List.{slice_get}
+use Rattle.std.proofs.lemmas.List.Elements.{length_all_zip}
 use Rattle.plain_list.proofs.lemmas.weighted.Totals.{total-weighted_le}
 use Rattle.decision_process.specs.Process.{Start, at_starts}
 use Rattle.decision_process.specs.Backup.{floor, ceiling}
@@ -21,7 +22,9 @@ use Rattle.bellman_backup.specs.means.Means.{seen_value, lower_mean, upper_mean}
 use Rattle.trial_workers.specs.declared.effort.Effort.{Effort}
 use Rattle.trial_workers.specs.declared.effort.Solved.{Solved}
 use Rattle.trial_workers.specs.declared.extent.Extent.{Extent}
-use Rattle.trial_workers.specs.Crews.{AreNear}
+use Rattle.trial_workers.specs.declared.worker.Worker.{Worker}
+use Rattle.trial_workers.specs.Workers.{Stays}
+use Rattle.trial_workers.specs.Crews.{AreNear, HaveStayed}
 use Rattle.trial_workers.proofs.Counting.{taken_at, starts_first}
 use Rattle.bound_core.specs.ends.Closing.{closing_rows, HasStartsFirst, HasRowOf}
 use Rattle.bound_core.specs.ends.Ends.{closing_low, closing_high}
@@ -47,29 +50,44 @@ module _ (g : Ground) (f h : State → ℕ) (each : (s : State) → f s ≤ h s)
 
 -- ---- the pass of worker 0, and passes that have noted more
 
+-- each pass has stayed, so there are as many
+as_many : (b : Board) (os ns : List Worker) → HaveStayed b os ns → length ns ≡ length os
+as_many b os ns stayed = sym (length_all_zip (λ (o n : Worker). Stays b o.pass n.pass) os ns stayed)
+
 pub first_has_solved : FirstHasSolved
 first_has_solved b effort states x [] ns solved k has made first = absurd has
 first_has_solved b effort states x (o ∷ os) [] solved k has made first = absurd made.stayed
 first_has_solved b effort states x (o ∷ os) (n ∷ ns) solved k has made first =
     let same : k ≡ n.pass = first n refl in
-    subst (HasSolved b effort states x solved) (sym same) record {
+    subst (HasSolved b effort (length (o ∷ os)) states x solved) (sym same) record {
       here = (made.crew.each 0 n (omega arith)).fit.here;
       has = λ id s at. let had = has id s at in
           (made.stayed.0.noted.known id had.0, has_state_more o.pass.view n.pass.view made.stayed.0.noted id s had.1);
+      trials = λ some. record {
+        words = b;
+        of = refl;
+        crew = n ∷ ns;
+        count = as_many b (o ∷ os) (n ∷ ns) made.stayed;
+        is = made.crew;
+        trials = made.trials some;
+      };
       plain = made.plain;
       most = made.most;
+      early = made.early;
       end = made.end;
       lower = made.seen.0;
       upper = made.seen.1;
     }
 
 pub later_has_solved : LaterHasSolved
-later_has_solved b effort states x solved k l has here more =
+later_has_solved b effort workers states x solved k l has here more =
     let later = more_is_later k.view l.view more in record {
       here = here;
       has = λ id s at. let had = has.has id s at in (later.known id had.0, later.states id s had.1);
+      trials = has.trials;
       plain = has.plain;
       most = has.most;
+      early = has.early;
       end = has.end;
       lower = (let was = has.lower in let rises = floors_rise b.problem (seen_lower k.view) (seen_lower l.view) later.lower in omega arith);
       upper = (let was = has.upper in
@@ -87,7 +105,7 @@ module _ (b : Board) (v : View) (image : Image) (ended : IsEnded b v image) wher
 
 module _ (b : Board) (sizes : Sizes) (effort : Effort) (states : List State) (extent : Extent) (listed : AreNear b.problem sizes.sweep_states states extent)
     (ids : b.layout.ids ≤ sizes.states + sizes.workers) (rights : b.most ≡ sizes.workers)
-    (solved : Solved) (k : Knowledge) (has : HasSolved b effort states extent solved k) (image : Image) (ended : IsEnded b k.view image) where
+    (solved : Solved) (k : Knowledge) (has : HasSolved b effort sizes.workers states extent solved k) (image : Image) (ended : IsEnded b k.view image) where
   starts_have_rows : HasStartsFirst b.problem image.rows
   starts_have_rows place x there = ended.first states has.has place x.state
       (subst (λ l. slice_get l place ≡ Some x.state) (sym listed.first.1) (starts_first b.problem.starts listed.first.0 place x there))
@@ -114,6 +132,8 @@ module _ (b : Board) (sizes : Sizes) (effort : Effort) (states : List State) (ex
         given = (let within = ended.given in omega arith);
         spares = (let spares = ended.spares in omega arith);
         rounds = has.most;
+        early = has.early;
+        trials = has.trials;
         low = (let reached = has.plain.lower in omega arith);
         high = (let reached = has.plain.upper in omega arith);
         end = ⊎_elim (λ near. inl (omega arith)) (λ all. inr all) has.end;

@@ -28,8 +28,10 @@ finish-requires g c =
     let made : HasMadeRounds o.words effort o.extent c.in_ok-crew.crew rounds.new.crew rounds.result = record {
       crew = rounds.ensures.crew;
       stayed = rounds.ensures.stayed;
+      trials = rounds.ensures.trials;
       plain = rounds.ensures.plain;
       most = rounds.ensures.most;
+      early = rounds.ensures.early;
       end = rounds.ensures.end;
       seen = rounds.ensures.seen;
     } in

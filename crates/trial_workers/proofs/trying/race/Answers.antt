@@ -1,4 +1,5 @@
 use Rattle.std.proofs.Common.{◌∙◌}
+use Rattle.bellman_backup.specs.Races.{has_all}
 use Rattle.trial_workers.proofs.Passes.{same_rights, own_is_ready, raced_stays, raced_is_of}
 use Rattle.trial_workers.proofs.trying.race.Goals as goal
 
@@ -12,6 +13,16 @@ returns-clause-stays c =
     raced_stays b c.args.pass.now c.args.scratch c.new-bounds.result.words.now c.new-bounds.result.pass c.new-bounds.result.scratch
     c.trial.new.bounds.words.now c.trial.new.bounds.pass c.trial.new.bounds.scratch c.requires.ready.here
     c.new-bounds.ensures.words (c.new-bounds.ensures.pass ∙ own) c.trial.ensures.later
+
+pub returns-clause-trial : goal.returns-clause-trial
+returns-clause-trial c = record {
+  from = c.new-bounds.result;
+  to = c.trial.new.bounds;
+  over = c.new-bounds.ensures.words;
+  noted = has_all c.trial.new.bounds.pass.view;
+  end = c.trial.result.end;
+  is = c.trial.ensures.trial;
+}
 
 pub returns-clause-scratch : goal.returns-clause-scratch
 returns-clause-scratch c =

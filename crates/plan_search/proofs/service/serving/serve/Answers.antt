@@ -1,7 +1,8 @@
 -- From the rounds and the run of the server to the answer.
-use Rattle.std.proofs.Common.{rules, sym, ◌∙◌}
+use Rattle.std.proofs.Common.{rules, sym, subst, ◌∙◌}
 use Rattle.std.specs.Arc.{arc_value}
 use Rattle.plan_search.proofs.lemmas.solver.Listing.{opened_keeps, opened_lists, opened_is_near}
+use Rattle.plan_search.specs.solver.Rounds.{HasSolved}
 use Rattle.plan_search.proofs.lemmas.solver.Answering.{first_has_solved, later_has_solved, closing_is_solved}
 use Rattle.plan_search.specs.service.Served.{streams, WasServed}
 use Rattle.plan_search.proofs.lemmas.service.Joined.{still_listed, split_listed, still_kept, joined_is_here, joined_has_both}
@@ -56,7 +57,8 @@ returns-clause-solved g c =
     let there = beside.ensures.ran.run.serves.here in
     let here = joined_is_here o.words c.dismiss-pass.result beside.new.pass c.join.new.pass first.here there c.join.ensures in
     let both = joined_has_both o.words c.dismiss-pass.result beside.new.pass c.join.new.pass first.here there c.join.ensures in
-    let last = later_has_solved o.words effort states o.extent beside.result.0 c.dismiss-pass.result c.join.new.pass first here both.0 in
+    let all = subst (λ n. HasSolved o.words effort n states o.extent beside.result.0 c.dismiss-pass.result) c.in_ok-crew.ensures.made.count first in
+    let last = later_has_solved o.words effort c.args.sizes.now.workers states o.extent beside.result.0 c.dismiss-pass.result c.join.new.pass all here both.0 in
     closing_is_solved c.args.problem.now c.args.sizes.now effort o beside.result.0 c.join.new.pass c.in_ok-image.image c.in_ok-words.ensures last c.in_ok-image.ensures
 
 pub returns-clause-served : goal.returns-clause-served

@@ -1,4 +1,4 @@
-use Rattle.std.proofs.Common.{sym, ◌∙◌}
+use Rattle.std.proofs.Common.{sym, subst, ◌∙◌}
 use Rattle.plan_search.specs.solver.Rounds.{HasMadeRounds, HasSolved}
 use Rattle.plan_search.proofs.lemmas.solver.Listing.{opened_keeps, opened_is_near}
 use Rattle.plan_search.proofs.lemmas.solver.Answering.{first_has_solved, closing_is_solved}
@@ -21,8 +21,10 @@ finish-requires g c =
     let made : HasMadeRounds o.words effort o.extent c.in_ok-crew.crew rounds.new.crew rounds.result = record {
       crew = rounds.ensures.crew;
       stayed = rounds.ensures.stayed;
+      trials = rounds.ensures.trials;
       plain = rounds.ensures.plain;
       most = rounds.ensures.most;
+      early = rounds.ensures.early;
       end = rounds.ensures.end;
       seen = rounds.ensures.seen;
     } in
@@ -36,12 +38,15 @@ returns g c =
     let made : HasMadeRounds o.words effort o.extent c.in_ok-crew.crew rounds.new.crew rounds.result = record {
       crew = rounds.ensures.crew;
       stayed = rounds.ensures.stayed;
+      trials = rounds.ensures.trials;
       plain = rounds.ensures.plain;
       most = rounds.ensures.most;
+      early = rounds.ensures.early;
       end = rounds.ensures.end;
       seen = rounds.ensures.seen;
     } in
-    let solved : HasSolved o.words effort opened.states o.extent rounds.result c.dismiss.result
-    = first_has_solved o.words effort opened.states o.extent c.in_ok-crew.crew rounds.new.crew rounds.result c.dismiss.result
-    (c.in_ok-crew.ensures.has opened.states opened.has) made c.dismiss.ensures in
+    let solved : HasSolved o.words effort sizes.workers opened.states o.extent rounds.result c.dismiss.result
+    = subst (λ n. HasSolved o.words effort n opened.states o.extent rounds.result c.dismiss.result) c.in_ok-crew.ensures.made.count
+    (first_has_solved o.words effort opened.states o.extent c.in_ok-crew.crew rounds.new.crew rounds.result c.dismiss.result
+    (c.in_ok-crew.ensures.has opened.states opened.has) made c.dismiss.ensures) in
     closing_is_solved c.args.problem.now sizes effort o rounds.result c.dismiss.result c.in_ok-image.image opened solved c.in_ok-image.ensures
