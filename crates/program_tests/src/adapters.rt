@@ -80,6 +80,36 @@ fn folders_hold_what_was_written(rt: HostRuntime) -> Result<(), Fail> {
     Ok(())
 }
 
+/// The bytes fill more than two pages.
+#[test]
+fn folders_hold_long_texts(rt: HostRuntime) -> Result<(), Fail> {
+    let alloc = rt.alloc();
+    let mut bytes = Vec::new(alloc);
+    for number in 0..10_000_u32 {
+        bytes.push((number % 251) as u8)?;
+    }
+    let mut shelf = FolderShelf::make(&rt);
+    write(alloc, &mut shelf, "long", bytes.as_slice())?;
+    let found = read(alloc, &mut shelf, "long", 10_000)?;
+    assert!(rt; found.as_slice() == bytes.as_slice());
+    assert_eq!(rt; fs::exists(&rt, "long.0.part")?, false);
+    fs::remove_file(&rt, "long")?;
+    Ok(())
+}
+
+/// No file gets the name of a folder, so the new file is removed.
+#[test]
+fn folders_under_a_name_stay(rt: HostRuntime) -> Result<(), Fail> {
+    let alloc = rt.alloc();
+    fs::create_dir(&rt, "barn")?;
+    let mut shelf = FolderShelf::make(&rt);
+    let unwritten = write(alloc, &mut shelf, "barn", b"x");
+    assert_eq!(rt; unwritten, Err(WriteFault::Failed));
+    assert_eq!(rt; fs::exists(&rt, "barn.0.part")?, false);
+    fs::remove_dir(&rt, "barn")?;
+    Ok(())
+}
+
 /// The source in one thread and the sink in another.
 fn side_by_side<R: Threads, I: Source + Send, O: Sink + Send>(
     rt: &R,
