@@ -2,7 +2,11 @@
 
 use crate::runs::run_words;
 use crate::texts::shelf_of;
+use shelf_io::MemorySink;
+use std::alloc::{AllocError, Global};
+use std::process::Abort;
 use std::test::Fail;
+use std::thread::Threads;
 
 /// Effects, and what is printed of their choices.
 static EFFECTS: [(&str, &str); 22] = [
@@ -89,19 +93,38 @@ static EFFECTS: [(&str, &str); 22] = [
     ),
 ];
 
-/// The report of each ends with its choices.
+/// Grounds the task with an effect, and answers the status and what was put.
+fn ground_effect<R: Threads + Sync>(
+    rt: &R,
+    alloc: Global,
+    effect: &str,
+) -> Result<(u8, MemorySink), AllocError> {
+    let mut shelf = shelf_of(alloc, &[("task", "EFFECT", effect)])?;
+    let run = run_words(rt, alloc, &mut shelf, "ground task");
+    drop(shelf);
+    run
+}
+
+/// The report of an effect ends with its choices, behind the one action.
+fn check_effect<R: Threads + Sync + Abort>(
+    rt: &R,
+    alloc: Global,
+    effect: &str,
+    choices: &str,
+) -> Result<(), AllocError> {
+    let (status, out) = ground_effect(rt, alloc, effect)?;
+    let front = out.bytes().strip_suffix(choices.as_bytes());
+    let ends = front.unwrap_or(b"").ends_with(b"actions 1\naction (act) ");
+    drop(out);
+    assert!(rt; ends, "{effect}");
+    assert_eq!(rt; status, 0, "{effect}");
+    Ok(())
+}
+
 #[test]
 fn choices_of_effects(rt: HostRuntime) -> Result<(), Fail> {
-    let alloc = rt.alloc();
     for (effect, choices) in &EFFECTS {
-        let mut shelf = shelf_of(alloc, &[("task", "EFFECT", *effect)])?;
-        let (status, out) = run_words(&rt, alloc, &mut shelf, "ground task")?;
-        let wanted = format!(in alloc; "actions 1\naction (act) {choices}")?;
-        assert!(rt;
-            out.bytes().ends_with(wanted.as_str().as_bytes()),
-            "{effect}"
-        );
-        assert_eq!(rt; status, 0, "{effect}");
+        check_effect(&rt, rt.alloc(), effect, choices)?;
     }
     Ok(())
 }

@@ -6,9 +6,13 @@ mod adapters;
 #[cfg(test)]
 mod certificates;
 #[cfg(test)]
+mod cuts;
+#[cfg(test)]
 mod effects;
 #[cfg(test)]
 mod failures;
+#[cfg(test)]
+mod gates;
 #[cfg(test)]
 mod limits;
 #[cfg(test)]
@@ -23,5 +27,9 @@ mod runs;
 mod searches;
 #[cfg(test)]
 mod servers;
+#[cfg(test)]
+mod service;
+#[cfg(test)]
+mod signal;
 #[cfg(test)]
 mod texts;

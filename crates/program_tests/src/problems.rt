@@ -1,7 +1,10 @@
 //! `ground`: the reports of problems, and each refusal of texts.
 
 use crate::runs::check_edited;
+use std::alloc::{AllocError, Global};
+use std::process::Abort;
 use std::test::Fail;
+use std::thread::Threads;
 
 /// The coin's problem.
 const TOSS: &str = "(define (problem toss)
@@ -59,18 +62,30 @@ static REFUSED: [(&str, &str, u32, u32); 20] = [
     ("(:goal-reward 10)", "", 18, 6),
 ];
 
+/// Wants that the coin with a word in place of another one is refused in this text.
+fn check_refused<R: Threads + Sync + Abort>(
+    rt: &R,
+    alloc: Global,
+    edits: &[(&str, &str, &str)],
+    words: &str,
+    place: (u32, u32, u32),
+) -> Result<(), AllocError> {
+    let (code, file, line) = place;
+    let refusal = format!(in alloc; "refused {code} {file}:{line}\n")?;
+    let checked = check_edited(rt, alloc, edits, (words, 6, refusal.as_str()));
+    drop(refusal);
+    checked
+}
+
 /// Each is refused as the first text, and as the second one behind a blank one.
 #[test]
 fn coins_are_refused(rt: HostRuntime) -> Result<(), Fail> {
     let alloc = rt.alloc();
     for (old, new, code, line) in &REFUSED {
         let edits = [("coin", *old, *new)];
-        let alone = format!(in alloc; "refused {code} 1:{line}\n")?;
-        let row = ("ground coin", 6, alone.as_str());
-        check_edited(&rt, alloc, &edits, row)?;
-        let second = format!(in alloc; "refused {code} 2:{line}\n")?;
-        let row = ("ground blank --problem coin", 6, second.as_str());
-        check_edited(&rt, alloc, &edits, row)?;
+        check_refused(&rt, alloc, &edits, "ground coin", (*code, 1, *line))?;
+        let second = "ground blank --problem coin";
+        check_refused(&rt, alloc, &edits, second, (*code, 2, *line))?;
     }
     Ok(())
 }
@@ -103,6 +118,9 @@ action (flip) 2
 choice 1/2 2.000000 + (done) - when 0
 choice 1/2 2.000000 + - when 0
 ";
+
+/// A search on roads with lengths.
+const SOLVE_HAUL: &str = "solve haul --cert c --gap 0 --trials 0 --workers 1";
 
 /// What stands in place of what in which text, and what is put then: problems of one text and of two, and refusals
 /// with the text in which they are.
@@ -184,7 +202,7 @@ start 1/64 : (on a) (on b) (on c) (on d) (on e) (on f) (on g)",
     // A road of no length, and one with two lengths.
     (
         &[("haul", "(= (length a c) 4)", "(= (length a c) 0)")],
-        "ground haul",
+        SOLVE_HAUL,
         6,
         "refused 17 1:4\n",
     ),
@@ -194,7 +212,7 @@ start 1/64 : (on a) (on b) (on c) (on d) (on e) (on f) (on g)",
             "(= (length a c) 4)",
             "(= (length a c) 4) (= (length a b) 2)",
         )],
-        "ground haul",
+        SOLVE_HAUL,
         6,
         "refused 14 1:10\n",
     ),

@@ -2,6 +2,8 @@
 
 use plan_report::{ground_report, line_problem};
 use sample_problems::coin;
+use shelf_io::Bytes;
+use std::alloc::{AllocError, Global};
 use std::test::Fail;
 
 /// The report of the coin.
@@ -24,12 +26,20 @@ const LINE: &[u8] = b"(define (domain line)
 (define (problem line-2) (:domain line) (:init (at0)) (:goal (at1)) (:goal-reward 100000) (:metric maximize (reward)))
 ";
 
+/// The report of the coin, which no text gave.
+fn coin_report(alloc: Global) -> Result<Bytes, AllocError> {
+    let problem = coin(alloc)?;
+    let report = ground_report(alloc, &problem);
+    drop(problem);
+    report
+}
+
 #[test]
 fn problems_are_written(rt: HostRuntime) -> Result<(), Fail> {
-    let alloc = rt.alloc();
-    let report = ground_report(alloc, &coin(alloc)?)?;
+    let report = coin_report(rt.alloc())?;
     assert_eq!(rt; report.as_slice(), COIN);
-    let line = line_problem(alloc, 2, 4)?;
+    drop(report);
+    let line = line_problem(rt.alloc(), 2, 4)?;
     assert_eq!(rt; line.as_slice(), LINE);
     Ok(())
 }

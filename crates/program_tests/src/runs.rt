@@ -2,7 +2,7 @@
 
 use crate::texts::shelf_of;
 use plan_app::run;
-use shelf_io::{FreeGate, MemoryShelf, MemorySink, MemorySource};
+use shelf_io::{FreeGate, Gate, MemoryShelf, MemorySink, MemorySource, Sink, Source};
 use std::alloc::{AllocError, Global};
 use std::process::Abort;
 use std::thread::Threads;
@@ -19,6 +19,51 @@ pub(crate) struct Setting<'a> {
 /// The words of a run, its status and what is put. A text without a last line feed is what is put first.
 pub(crate) type Row<'a, 'b> = (&'a str, u8, &'b str);
 
+/// Runs words over a source and a sink, behind a gate, and answers the status.
+pub(crate) fn run_behind<R: Threads + Sync, I: Source + Send, O: Sink + Send, G: Gate>(
+    rt: &R,
+    alloc: Global,
+    words: &str,
+    shelf: &mut MemoryShelf,
+    source: &mut I,
+    out: &mut O,
+    gate: &G,
+) -> Result<u8, AllocError> {
+    let words: Vec<&str> = words.split_ascii_whitespace().collect(alloc)?;
+    Ok(run(rt, alloc, &words, shelf, source, out, gate))
+}
+
+/// A source of these bytes, of which the take with this number fails.
+fn source_of(alloc: Global, input: &[u8], take: u64) -> Result<MemorySource, AllocError> {
+    let mut source = MemorySource::make(alloc)?;
+    source.fill(input)?;
+    source.fail_at(take)?;
+    Ok(source)
+}
+
+/// A sink of which the put with this number fails.
+fn sink_of(alloc: Global, put: u64) -> Result<MemorySink, AllocError> {
+    let mut out = MemorySink::make(alloc)?;
+    out.fail_at(put)?;
+    Ok(out)
+}
+
+/// Runs words over an input of which the take with this number fails, and answers the status.
+fn run_from<R: Threads + Sync>(
+    rt: &R,
+    alloc: Global,
+    words: &str,
+    shelf: &mut MemoryShelf,
+    input: &[u8],
+    take: u64,
+    out: &mut MemorySink,
+) -> Result<u8, AllocError> {
+    let mut source = source_of(alloc, input, take)?;
+    let status = run_behind(rt, alloc, words, shelf, &mut source, out, &FreeGate);
+    drop(source);
+    status
+}
+
 /// Runs, and answers the status and what was put.
 pub(crate) fn run_on<R: Threads + Sync>(
     rt: &R,
@@ -26,16 +71,19 @@ pub(crate) fn run_on<R: Threads + Sync>(
     shelf: &mut MemoryShelf,
     setting: Setting<'_>,
 ) -> Result<(u8, MemorySink), AllocError> {
-    let words: Vec<&str> = setting.words.split_ascii_whitespace().collect(alloc)?;
     let (read, take, put) = setting.failing;
     shelf.fail_at(read)?;
-    let mut source = MemorySource::make(alloc)?;
-    source.fill(setting.input)?;
-    source.fail_at(take)?;
-    let mut out = MemorySink::make(alloc)?;
-    out.fail_at(put)?;
-    let status = run(rt, alloc, &words, shelf, &mut source, &mut out, &FreeGate);
-    Ok((status, out))
+    let mut out = sink_of(alloc, put)?;
+    let status = run_from(
+        rt,
+        alloc,
+        setting.words,
+        shelf,
+        setting.input,
+        take,
+        &mut out,
+    );
+    Ok((status?, out))
 }
 
 /// Runs words without input, where no call fails.
@@ -53,6 +101,17 @@ pub(crate) fn run_words<R: Threads + Sync>(
     run_on(rt, alloc, shelf, setting)
 }
 
+/// Wants the status and the text of a row.
+fn check_put<R: Abort>(rt: &R, row: Row<'_, '_>, found: u8, put: &[u8]) {
+    let (words, status, text) = row;
+    if text.ends_with('\n') {
+        assert_eq!(rt; put, text.as_bytes(), "{words}");
+    } else {
+        assert!(rt; put.starts_with(text.as_bytes()), "{words}");
+    }
+    assert_eq!(rt; found, status, "{words}");
+}
+
 /// Runs the words of a row, and wants what it says.
 pub(crate) fn check_row<R: Threads + Sync + Abort>(
     rt: &R,
@@ -60,15 +119,9 @@ pub(crate) fn check_row<R: Threads + Sync + Abort>(
     shelf: &mut MemoryShelf,
     row: Row<'_, '_>,
 ) -> Result<(), AllocError> {
-    let (words, status, text) = row;
-    let (found, out) = run_words(rt, alloc, shelf, words)?;
-    let put = out.bytes();
-    if text.ends_with('\n') {
-        assert_eq!(rt; put, text.as_bytes(), "{words}");
-    } else {
-        assert!(rt; put.starts_with(text.as_bytes()), "{words}");
-    }
-    assert_eq!(rt; found, status, "{words}");
+    let (found, out) = run_words(rt, alloc, shelf, row.0)?;
+    check_put(rt, row, found, out.bytes());
+    drop(out);
     Ok(())
 }
 
@@ -79,5 +132,8 @@ pub(crate) fn check_edited<R: Threads + Sync + Abort>(
     edits: &[(&str, &str, &str)],
     row: Row<'_, '_>,
 ) -> Result<(), AllocError> {
-    check_row(rt, alloc, &mut shelf_of(alloc, edits)?, row)
+    let mut shelf = shelf_of(alloc, edits)?;
+    let checked = check_row(rt, alloc, &mut shelf, row);
+    drop(shelf);
+    checked
 }

@@ -191,3 +191,38 @@ pub(crate) fn wide(alloc: Global, more: &str) -> Result<String, AllocError> {
     text.push_str(" - t3) (:init) (:goal (p)))\n")?;
     Ok(text)
 }
+
+/// How large a task is, and what stands at `PARTS` in it.
+#[derive(Clone, Copy)]
+pub(crate) struct TaskSize<'a> {
+    /// How many atoms there are, from `(x1)` on.
+    pub(crate) atoms: u32,
+    /// How many objects there are.
+    pub(crate) objects: u32,
+    /// The fields of its one action.
+    pub(crate) fields: &'a str,
+    /// What holds at first.
+    pub(crate) init: &'a str,
+    /// So many parts, each with its number between these two pieces.
+    pub(crate) parts: (u32, &'a str, &'a str),
+}
+
+/// The text of a task of a size.
+pub(crate) fn sized_task(alloc: Global, task: &TaskSize<'_>) -> Result<String, AllocError> {
+    let (count, front, back) = task.parts;
+    let mut parts = String::new(alloc);
+    push_numbered(&mut parts, (front, back), 1, count.saturating_add(1))?;
+    let mut text = String::from_str(alloc, "(define (domain sized) (:predicates")?;
+    push_numbered(&mut text, (" (x", ")"), 1, task.atoms.saturating_add(1))?;
+    let (fields, init) = (task.fields, task.init);
+    write!(
+        text,
+        ")\n  (:action act {fields}))\n(define (problem sized-1) (:domain sized) (:objects"
+    )?;
+    push_numbered(&mut text, (" o", ""), 1, task.objects.saturating_add(1))?;
+    write!(
+        text,
+        ")\n  (:init {init}) (:goal (x1)) (:goal-reward 10))\n"
+    )?;
+    text.as_str().replace(alloc, "PARTS", parts.as_str())
+}

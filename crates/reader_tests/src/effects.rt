@@ -55,6 +55,10 @@ done => 4 1
 (decrease reward|) => 4 2
 (decrease reward 1|2) => 4 2
 (decrease reward (|reward)) => 4 2
+; In the place of a cost a reserved word is taken for a name, in that of a chance for a number.
+(decrease (reward)|and) => 4 2
+(decrease reward|Assign) => 4 2
+(probabilistic|and (done)) => 11 2
 ; Names and variables that are not declared or not in sight; a predicate is no function.
 (|lost) => 5 2
 (at ?t|p9) => 5 2
@@ -95,6 +99,6 @@ done => 4 1
 #[test]
 fn effects(rt: HostRuntime) -> Result<(), Fail> {
     let told = tried(rt.alloc(), Rows::Effects, EFFECTS)?;
-    assert_eq!(rt; told.as_str(), "70 rows");
+    assert_eq!(rt; told.as_str(), "73 rows");
     Ok(())
 }

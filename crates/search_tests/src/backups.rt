@@ -1,6 +1,6 @@
 //! Backups one by one, against numbers that were computed by hand.
 
-ghost use Rattle.std.specs.Prelude.{◌<◌};
+ghost use Rattle.std.specs.Prelude.{◌<◌, IfOk};
 ghost use Rattle.word_table.specs.view.Views.{knows};
 ghost use Rattle.word_table.specs.Seen.{IsOf};
 ghost use Rattle.bellman_backup.specs.Backups.{Keeps};
@@ -112,6 +112,24 @@ fn check_backups<R: Abort>(
     Ok(())
 }
 
+/// Makes the backups in turn, where there is a scratch for them.
+fn check_with<R: Abort>(
+    rt: &R,
+    alloc: Global,
+    words: &Words<'_>,
+    pass: &mut Pass,
+    scratch: Result<Scratch<'_>, AllocError>,
+    rows: &[Row],
+    asked: bool,
+) -> Result<(), AllocError>
+    requires here { IsOf words.now pass.old }
+    requires right { 0 < pass.old.view.rights }
+    requires scratch { IfOk scratch (λ s. IsScratchOf words.now s) }
+{
+    let mut scratch = scratch?;
+    check_backups(rt, alloc, words, pass, &mut scratch, rows, asked)
+}
+
 /// Makes the backups in turn, over a table in which all states of the problem have ids.
 fn check_table<R: Abort>(
     rt: &R,
@@ -130,10 +148,15 @@ fn check_table<R: Abort>(
         mut pass,
         extent: _,
         index,
-        near: _,
+        near,
     } = open(alloc, problem, &sizes)?;
-    let mut scratch = Scratch::make(alloc, &index, 66, 64, 64)?;
-    check_backups(rt, alloc, &words, &mut pass, &mut scratch, rows, asked)
+    drop(near);
+    let scratch = Scratch::make(alloc, &index, 66, 64, 64);
+    drop(index);
+    let checked = check_with(rt, alloc, &words, &mut pass, scratch, rows, asked);
+    drop(pass);
+    drop(words);
+    checked
 }
 
 /// Makes the backups over two tables: the intervals afterwards are the same where no answer is asked for.
@@ -165,8 +188,10 @@ fn of_the_tire(rt: HostRuntime) -> Result<(), Fail> {
         at(64, (AT_GOAL, 1, 0), (0, 0, AT_GOAL)),
         at(69, (AT_GOAL, 1, 0), (0, 0, AT_GOAL)),
     ];
-    check_rows(&rt, alloc, &tire(alloc)?, &rows)?;
-    Ok(())
+    let problem = tire(alloc)?;
+    let checked = check_rows(&rt, alloc, &problem, &rows);
+    drop(problem);
+    Ok(checked?)
 }
 
 /// Atoms: at a 1, at b 2, at c 4. Codes: from a to b 0, from a to c 1, from b to c 2.
@@ -184,6 +209,7 @@ fn of_the_haul(rt: HostRuntime) -> Result<(), Fail> {
         at(1, (0, 1, 1), (4_833_333, 9_277_778, 0)),
         at(4, (AT_GOAL, 1, 0), (0, 0, AT_GOAL)),
     ];
-    check_rows(&rt, alloc, &problem, &rows)?;
-    Ok(())
+    let checked = check_rows(&rt, alloc, &problem, &rows);
+    drop(problem);
+    Ok(checked?)
 }

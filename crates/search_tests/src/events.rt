@@ -5,6 +5,7 @@ use fixed_round::UpperWord;
 use ground_model::GroundProblem;
 use sample_problems::{coin, tire};
 use std::alloc::{AllocError, Global};
+use std::process::Abort;
 use std::test::Fail;
 
 /// Worker 0 publishes heads, worker 1 begins with what it knows, and both see the upper words.
@@ -125,6 +126,29 @@ fn are_unpublished(
     Ok(true)
 }
 
+/// Runs events on the coin, all of which are allowed.
+fn run_on_coin(alloc: Global, first: &[Event], last: &[Event]) -> Result<CoreState, Fail> {
+    let problem = coin(alloc)?;
+    let core = run(alloc, &problem, first, last);
+    drop(problem);
+    Ok(core??)
+}
+
+/// The least upper word and the greatest lower one are left, and worker 0 has seen them of the joined one.
+fn check_narrowed<R: Abort>(rt: &R, core: &CoreState) {
+    let (rows, workers) = (core.ids.as_slice(), core.workers.as_slice());
+    assert!(rt; rows.len() == 2 && workers.len() == 2);
+    assert_eq!(rt; rows[0].upper, UpperWord::pack(4_000_000, 0));
+    assert_eq!(rt; rows[0].lower, 1_000_000);
+    assert!(rt; !workers[1].live);
+    let seen = workers[0].seen.as_slice();
+    assert!(rt; seen.len() == 2);
+    assert_eq!(rt; (seen[0].id, seen[0].lower), (0, Some(1_000_000)));
+    assert_eq!(rt; seen[0].upper, Some(UpperWord::pack(4_000_000, 0)));
+    assert_eq!(rt; (seen[1].id, seen[1].lower), (1, None));
+    assert_eq!(rt; seen[1].upper, Some(UpperWord::pack(0, AT_GOAL)));
+}
+
 #[test]
 fn the_narrowest_word_stays(rt: HostRuntime) -> Result<(), Fail> {
     let alloc = rt.alloc();
@@ -141,27 +165,15 @@ fn the_narrowest_word_stays(rt: HostRuntime) -> Result<(), Fail> {
             other: 1,
         },
     ];
-    let core = run(alloc, &coin(alloc)?, &SHARED, &raced)??;
-    let (rows, workers) = (core.ids.as_slice(), core.workers.as_slice());
-    assert!(rt; rows.len() == 2 && workers.len() == 2);
-    assert_eq!(rt; rows[0].upper, UpperWord::pack(4_000_000, 0));
-    assert_eq!(rt; rows[0].lower, 1_000_000);
-    assert!(rt; !workers[1].live);
-    let seen = workers[0].seen.as_slice();
-    assert!(rt; seen.len() == 2);
-    assert_eq!(rt; (seen[0].id, seen[0].lower), (0, Some(1_000_000)));
-    assert_eq!(rt; seen[0].upper, Some(UpperWord::pack(4_000_000, 0)));
-    assert_eq!(rt; (seen[1].id, seen[1].lower), (1, None));
-    assert_eq!(rt; seen[1].upper, Some(UpperWord::pack(0, AT_GOAL)));
+    let core = run_on_coin(alloc, &SHARED, &raced)?;
+    check_narrowed(&rt, &core);
+    drop(core);
     Ok(())
 }
 
 /// On the coin: what a worker may not do that does not exist, does not know the id or holds no spare, which numbers are
 /// no bounds, and which spares are no states.
-#[test]
-fn the_coin_refuses(rt: HostRuntime) -> Result<(), Fail> {
-    let alloc = rt.alloc();
-    let problem = coin(alloc)?;
+fn check_coin<R: Abort>(rt: &R, alloc: Global, problem: &GroundProblem) -> Result<(), AllocError> {
     let claim = Event::Claim { worker: 0 };
     let publish = Event::Publish { worker: 0 };
     let at_first = [
@@ -193,23 +205,28 @@ fn the_coin_refuses(rt: HostRuntime) -> Result<(), Fail> {
             other: 1,
         },
     ];
-    assert!(rt; are_refused(alloc, &problem, &[], &at_first)?);
+    assert!(rt; are_refused(alloc, problem, &[], &at_first)?);
     // one spare at a time, of one word, which is written before it is published
-    assert!(rt; are_refused(alloc, &problem, &[claim], &[claim, write(0, 1, 1), publish])?);
+    assert!(rt; are_refused(alloc, problem, &[claim], &[claim, write(0, 1, 1), publish])?);
     // tails has an id, and the second bit is no atom's
-    assert!(rt; are_unpublished(alloc, &problem, &[], 0, &[0, 2, 3])?);
+    assert!(rt; are_unpublished(alloc, problem, &[], 0, &[0, 2, 3])?);
     // at the goal nothing is raised, and its word is its own
     let at_goal = [raise(0, 1, 1), sink(0, 1, 0, GIVE_UP)];
-    assert!(rt; are_refused(alloc, &problem, &SHARED, &at_goal)?);
+    assert!(rt; are_refused(alloc, problem, &SHARED, &at_goal)?);
     Ok(())
+}
+
+#[test]
+fn the_coin_refuses(rt: HostRuntime) -> Result<(), Fail> {
+    let problem = coin(rt.alloc())?;
+    let checked = check_coin(&rt, rt.alloc(), &problem);
+    drop(problem);
+    Ok(checked?)
 }
 
 /// On the road: what a worker may not do with what another one knows, which actions are not open, and which states
 /// follow none that is known.
-#[test]
-fn the_road_refuses(rt: HostRuntime) -> Result<(), Fail> {
-    let alloc = rt.alloc();
-    let problem = tire(alloc)?;
+fn check_road<R: Abort>(rt: &R, alloc: Global, problem: &GroundProblem) -> Result<(), AllocError> {
     let claim = Event::Claim { worker: 1 };
     let join = Event::Join {
         worker: 0,
@@ -228,36 +245,62 @@ fn the_road_refuses(rt: HostRuntime) -> Result<(), Fail> {
         sink(0, 1, 99_000_000, 0),
         sink(0, 2, 1_000_000, 1),
     ];
-    assert!(rt; are_refused(alloc, &problem, &TRAVELLED, &travelled)?);
+    assert!(rt; are_refused(alloc, problem, &TRAVELLED, &travelled)?);
     // the first two have ids; no move leads to two places, from the first to the third, or past the atoms
     let words = [37, 36, 53, 69, 165];
-    assert!(rt; are_unpublished(alloc, &problem, &TRAVELLED, 1, &words)?);
-    // once worker 1 has looked at the second place, it publishes the third one
-    let look = Event::Look {
-        worker: 1,
-        id: Some(1),
-    };
-    let publish = Event::Publish { worker: 1 };
-    let last = [look, claim, write(1, 0, 69), publish];
-    let core = run(alloc, &problem, &TRAVELLED, &last)??;
-    assert_eq!(rt; core.ids.as_slice().len(), 4);
+    assert!(rt; are_unpublished(alloc, problem, &TRAVELLED, 1, &words)?);
     // a worker is joined without a spare, and once
-    assert!(rt; ends_refused(alloc, &problem, &TRAVELLED, &[claim, join])?);
-    assert!(rt; ends_refused(alloc, &problem, &TRAVELLED, &[join, claim])?);
+    assert!(rt; ends_refused(alloc, problem, &TRAVELLED, &[claim, join])?);
+    assert!(rt; ends_refused(alloc, problem, &TRAVELLED, &[join, claim])?);
     Ok(())
 }
 
 #[test]
-fn ids_run_out(rt: HostRuntime) -> Result<(), Fail> {
-    let alloc = rt.alloc();
-    let problem = coin(alloc)?;
+fn the_road_refuses(rt: HostRuntime) -> Result<(), Fail> {
+    let problem = tire(rt.alloc())?;
+    let checked = check_road(&rt, rt.alloc(), &problem);
+    drop(problem);
+    Ok(checked?)
+}
+
+/// How many ids there are once worker 1 has looked at the second place and published the third one.
+fn ids_behind_look(alloc: Global) -> Result<usize, Fail> {
+    let last = [
+        Event::Look {
+            worker: 1,
+            id: Some(1),
+        },
+        Event::Claim { worker: 1 },
+        write(1, 0, 69),
+        Event::Publish { worker: 1 },
+    ];
+    let problem = tire(alloc)?;
+    let core = run(alloc, &problem, &TRAVELLED, &last);
+    drop(problem);
+    Ok(core??.ids.as_slice().len())
+}
+
+#[test]
+fn who_looked_publishes(rt: HostRuntime) -> Result<(), Fail> {
+    assert_eq!(rt; ids_behind_look(rt.alloc())?, 4);
+    Ok(())
+}
+
+/// Whether a claim is refused where each worker but one has claimed an id. Tails has an id.
+fn is_last_refused(alloc: Global, problem: &GroundProblem) -> Result<bool, AllocError> {
     let mut events = Vec::new(alloc);
-    // tails has an id
     for worker in 1..MOST_IDS {
         events.push(Event::Split { worker: 0 })?;
         events.push(Event::Claim { worker })?;
     }
-    let claim = Event::Claim { worker: 0 };
-    assert!(rt; ends_refused(alloc, &problem, &events, &[claim])?);
+    ends_refused(alloc, problem, &events, &[Event::Claim { worker: 0 }])
+}
+
+#[test]
+fn ids_run_out(rt: HostRuntime) -> Result<(), Fail> {
+    let problem = coin(rt.alloc())?;
+    let refused = is_last_refused(rt.alloc(), &problem);
+    drop(problem);
+    assert!(rt; refused?);
     Ok(())
 }

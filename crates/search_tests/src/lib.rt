@@ -1,4 +1,4 @@
-//! Tests of the search, from the events of a core to a server beside a crew. Nothing stands on them.
+//! Tests of the search, from the events of a core to the rounds of a crew. Nothing stands on them.
 #![tactic(auto)]
 
 #[cfg(test)]
@@ -6,17 +6,9 @@ mod backups;
 #[cfg(test)]
 mod events;
 #[cfg(test)]
-mod gates;
-#[cfg(test)]
 mod numbers;
 #[cfg(test)]
 mod problems;
-#[cfg(test)]
-mod service;
-#[cfg(test)]
-mod signal;
-#[cfg(test)]
-mod solved;
 #[cfg(test)]
 mod table;
 #[cfg(test)]

@@ -7,10 +7,9 @@ ghost use Rattle.trial_workers.specs.Crews.{IsCrewOf, IsNear};
 ghost use Rattle.plan_search.specs.solver.Opened.{AreSizes};
 
 use crate::problems::{SLOW_COIN, problem_of};
-use crate::solved::{EFFORT, SIZES};
 use crate::table::steps::find_id;
 use bound_words::interval;
-use ground_model::GroundProblem;
+use ground_model::{GroundProblem, State};
 use plan_search::{Effort, Opening, Sizes, make_crew, open};
 use shelf_io::FreeGate;
 use std::alloc::{AllocError, Global};
@@ -18,6 +17,23 @@ use std::test::Fail;
 use std::thread::{Threads, join_mut};
 use trial_workers::{Crew, Extent, Solved, solve_words};
 use word_table::{Pass, Words, split};
+
+/// Four workers.
+const SIZES: Sizes = Sizes {
+    workers: 4,
+    states: 65_536,
+    sweep_states: 4_096,
+};
+
+/// Rounds of 64 trials of one turn, until the interval is as narrow as rounding lets it become.
+const EFFORT: Effort = Effort {
+    gap: 1_998,
+    rounds: 1_000,
+    trials: 64,
+    depth: 1,
+    tau: 10,
+    seed: 1,
+};
 
 /// How often an interval is read at most.
 const MOST_READINGS: u32 = 10_000_000;
@@ -70,20 +86,18 @@ fn read_beside<R: Threads + Sync>(
     )
 }
 
-/// Solves a problem by a crew, while another pass reads the interval of the first start.
+/// Solves a problem by a crew, while another pass reads the interval of this state.
 fn solve_and_read<R: Threads + Sync>(
     rt: &R,
     alloc: Global,
     problem: &GroundProblem,
+    state: &State,
     sizes: &Sizes,
     effort: &Effort,
 ) -> Result<Option<(Solved, bool)>, AllocError>
     requires sizes { AreSizes sizes.now }
     requires deep { 1 ≤ effort.now.depth }
 {
-    let Some(start) = problem.starts().first() else {
-        return Ok(None);
-    };
     let Opening {
         words,
         mut pass,
@@ -92,7 +106,7 @@ fn solve_and_read<R: Threads + Sync>(
         near,
     } = open(alloc, problem, sizes)?;
     let mut reading = split(&words, &mut pass, 0);
-    let mut crew = make_crew(
+    let Ok(mut crew) = make_crew(
         alloc,
         &words,
         pass,
@@ -100,15 +114,38 @@ fn solve_and_read<R: Threads + Sync>(
         &near,
         sizes.workers,
         effort.depth,
-    )?;
-    let found = match find_id(&words, &mut reading, &start.state) {
+    ) else {
+        drop(near);
+        drop(index);
+        drop(reading);
+        drop(words);
+        return Err(AllocError);
+    };
+    drop(near);
+    drop(index);
+    let found = match find_id(&words, &mut reading, state) {
         None => None,
         Some(id) => {
             let read = read_beside(rt, &words, &mut crew, &extent, effort, &mut reading, id);
             Some(read)
         }
     };
+    drop(crew);
+    drop(reading);
+    drop(words);
     Ok(found)
+}
+
+/// Solves a problem by four workers, while another pass reads the interval of the first start.
+fn read_start<R: Threads + Sync>(
+    rt: &R,
+    alloc: Global,
+    problem: &GroundProblem,
+) -> Result<Option<(Solved, bool)>, AllocError> {
+    match problem.starts().first() {
+        None => Ok(None),
+        Some(start) => solve_and_read(rt, alloc, problem, &start.state, &SIZES, &EFFORT),
+    }
 }
 
 /// Four workers make trials of one turn, so that all narrow the numbers of the one state that is no goal.
@@ -116,13 +153,9 @@ fn solve_and_read<R: Threads + Sync>(
 fn numbers_never_widen(rt: HostRuntime) -> Result<(), Fail> {
     let alloc = rt.alloc();
     let problem = problem_of(alloc, SLOW_COIN)?;
-    let effort = Effort {
-        gap: 1_998,
-        depth: 1,
-        ..EFFORT
-    };
-    let found = solve_and_read(&rt, alloc, &problem, &SIZES, &effort)?;
-    let Some((solved, narrows)) = found else {
+    let found = read_start(&rt, alloc, &problem);
+    drop(problem);
+    let Some((solved, narrows)) = found? else {
         return Err(Fail::new("the start is not found"));
     };
     assert!(rt; narrows);

@@ -4,8 +4,7 @@ use ground_model::GroundProblem;
 use grounder::{Terms, ground};
 use ppddl_grammar::task_laws;
 use ppddl_lex::MOST_TEXT;
-use std::alloc::{AllocError, Global};
-use std::fmt::Write;
+use std::alloc::Global;
 use std::test::Fail;
 
 /// A road leads from a to b and one from a to c, and a track from b to c, on which one try in three succeeds.
@@ -47,27 +46,6 @@ pub(crate) const SWITCHES: &str = "(define (domain switches)
   (:goal-reward 100))
 ";
 
-/// A road of 201 places, one behind the other. A step costs 1, and giving up 1,000.
-pub(crate) fn road(alloc: Global) -> Result<String, AllocError> {
-    let mut text = String::from_str(
-        alloc,
-        "(define (domain road) (:predicates (at ?x) (next ?x ?y))
-  (:action go :parameters (?x ?y) :precondition (and (at ?x) (next ?x ?y))
-    :effect (and (at ?y) (not (at ?x)))))
-(define (problem road-200) (:domain road) (:objects",
-    )?;
-    for k in 0..201_u32 {
-        write!(text, " p{k}")?;
-    }
-    text.push_str(") (:init (at p0)")?;
-    for k in 0..200_u32 {
-        let next = k + 1;
-        write!(text, " (next p{k} p{next})")?;
-    }
-    text.push_str(") (:goal (at p200)) (:goal-reward 1000))\n")?;
-    Ok(text)
-}
-
 /// The ground problem of a text with a goal reward.
 pub(crate) fn problem_of(alloc: Global, text: &str) -> Result<GroundProblem, Fail> {
     task_laws();
@@ -80,5 +58,7 @@ pub(crate) fn problem_of(alloc: Global, text: &str) -> Result<GroundProblem, Fai
         penalty: None,
         step_cost: 0,
     };
-    Ok(ground(alloc, &task, &terms)?)
+    let problem = ground(alloc, &task, &terms);
+    drop(task);
+    Ok(problem?)
 }

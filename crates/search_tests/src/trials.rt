@@ -34,6 +34,16 @@ fn one_way(
         weight: way.weight,
         state: 0,
     };
+    let numbers = [
+        Interval { lower: 0, upper },
+        Interval {
+            lower: 0,
+            upper: next,
+        },
+    ];
+    let starts = List::from_vec(Vec::from_array(alloc, [start])?);
+    let numbers = List::from_vec(Vec::from_array(alloc, numbers)?);
+    // What is long to let go comes last.
     let action = ListedAction {
         den: way.weight,
         outcomes: List::from_vec(Vec::from_array(alloc, [way])?),
@@ -48,16 +58,7 @@ fn one_way(
         goal: false,
         actions: List::from_vec(Vec::new(alloc)),
     };
-    let numbers = [
-        Interval { lower: 0, upper },
-        Interval {
-            lower: 0,
-            upper: next,
-        },
-    ];
-    let starts = List::from_vec(Vec::from_array(alloc, [start])?);
     let states = List::from_vec(Vec::from_array(alloc, [first, second])?);
-    let numbers = List::from_vec(Vec::from_array(alloc, numbers)?);
     Ok(ListedBounds::new(penalty, starts, states, numbers))
 }
 

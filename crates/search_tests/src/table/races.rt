@@ -16,7 +16,7 @@ use std::thread::Threads;
 use word_table::{Pass, Words, load_count};
 
 /// What several walkers left.
-#[derive(Drop)]
+#[derive(Clone, Copy)]
 struct Race {
     /// How many ids are given out.
     given_out: u32,
@@ -112,8 +112,39 @@ fn differ(alloc: Global, ids: &[u32]) -> Result<bool, AllocError> {
     Ok(true)
 }
 
-/// Lets so many walkers intern all sets of switches at once, on a table whose rows are not read yet.
-fn race<R: Threads + Sync>(
+/// Lets walkers intern all sets of switches at once, on a table whose rows are not read yet.
+fn walk_out<R: Threads + Sync>(
+    rt: &R,
+    alloc: Global,
+    words: &Words<'_>,
+    pass: &mut Pass,
+    walkers: &mut [Walker],
+) -> Result<Race, AllocError>
+    requires some { 0 < length walkers.old }
+    requires can { All (λ w. CanWalk words.now w.pass) walkers.old }
+    requires here { IsOf words.now pass.old }
+    ensures here { IsOf words.now pass.new }
+{
+    walk_all(rt, words, walkers);
+    let given_out = load_count(words, pass);
+    let spares = walkers.iter().filter(|w| w.pass.holds_spare()).count();
+    let Some(first) = walkers.first() else {
+        return Err(AllocError);
+    };
+    let ids = first.ids.as_slice();
+    let agree = have_ids(walkers, ids);
+    let differ = differ(alloc, ids)?;
+    Ok(Race {
+        given_out,
+        spares,
+        rows: 0,
+        agree,
+        differ,
+    })
+}
+
+/// Lets so many walkers intern all sets of switches at once.
+fn race_all<R: Threads + Sync>(
     rt: &R,
     alloc: Global,
     words: &Words<'_>,
@@ -127,22 +158,45 @@ fn race<R: Threads + Sync>(
     ensures here { OnOk result (IsOf words.now pass.new) }
 {
     let mut walkers = make_walkers(alloc, words, pass, count)?;
-    walk_all(rt, words, walkers.as_mut_slice());
-    let given_out = load_count(words, pass);
-    let spares = walkers.iter().filter(|w| w.pass.holds_spare()).count();
-    let Some(first) = walkers.as_slice().first() else {
+    let raced = walk_out(rt, alloc, words, pass, walkers.as_mut_slice());
+    drop(walkers);
+    raced
+}
+
+/// How many rows a table has.
+fn rows_of(alloc: Global, words: Words<'_>, pass: Pass) -> Result<usize, AllocError>
+    requires { IsOf words pass }
+{
+    let Ok(image) = words.close(alloc, pass) else {
         return Err(AllocError);
     };
-    let ids = first.ids.as_slice();
-    let agree = have_ids(walkers.as_slice(), ids);
-    let differ = differ(alloc, ids)?;
-    Ok(Race {
-        given_out,
-        spares,
-        rows: 0,
-        agree,
-        differ,
-    })
+    Ok(image.rows.as_slice().len())
+}
+
+/// What so many walkers leave on a table, with its rows.
+fn race_out<R: Threads + Sync>(
+    rt: &R,
+    alloc: Global,
+    words: Words<'_>,
+    mut pass: Pass,
+    count: u32,
+) -> Result<Race, AllocError>
+    requires some { 0 < count }
+    requires here { IsOf words pass }
+    requires free { pass.view.spare ≡ None }
+    requires rights { pass.view.rights ≡ count }
+{
+    match race_all(rt, alloc, &words, &mut pass, count) {
+        Ok(raced) => {
+            let rows = rows_of(alloc, words, pass)?;
+            Ok(Race { rows, ..raced })
+        }
+        Err(refusal) => {
+            drop(pass);
+            drop(words);
+            Err(refusal)
+        }
+    }
 }
 
 /// What so many walkers leave that intern all sets of switches at once.
@@ -161,17 +215,25 @@ fn run_race<R: Threads + Sync>(
     };
     let Opening {
         words,
-        mut pass,
+        pass,
         extent: _,
-        index: _,
-        near: _,
+        index,
+        near,
     } = open(alloc, problem, &sizes)?;
-    let mut left = race(rt, alloc, &words, &mut pass, count)?;
-    let Ok(image) = words.close(alloc, pass) else {
-        return Err(AllocError);
-    };
-    left.rows = image.rows.as_slice().len();
-    Ok(left)
+    drop(near);
+    drop(index);
+    race_out(rt, alloc, words, pass, count)
+}
+
+/// Whether two and four threads number the sets alike.
+fn number_alike<R: Threads + Sync>(
+    rt: &R,
+    alloc: Global,
+    problem: &GroundProblem,
+) -> Result<bool, AllocError> {
+    let two = run_race(rt, alloc, problem, 2)?;
+    let four = run_race(rt, alloc, problem, 4)?;
+    Ok(two.came_out() && four.came_out())
 }
 
 /// Two and four threads intern all sets at once, each in an order of its own.
@@ -179,7 +241,8 @@ fn run_race<R: Threads + Sync>(
 fn threads_number_states_alike(rt: HostRuntime) -> Result<(), Fail> {
     let alloc = rt.alloc();
     let problem = problem_of(alloc, SWITCHES)?;
-    assert!(rt; run_race(&rt, alloc, &problem, 2)?.came_out());
-    assert!(rt; run_race(&rt, alloc, &problem, 4)?.came_out());
+    let alike = number_alike(&rt, alloc, &problem);
+    drop(problem);
+    assert!(rt; alike?);
     Ok(())
 }

@@ -2,14 +2,16 @@
 
 ghost use Rattle.std.specs.Prelude.{◌≡◌, ◌≤◌, None, IfSome, IfNone};
 ghost use Rattle.word_table.specs.view.Views.{IsReached};
+ghost use Rattle.word_table.specs.Seen.{IsOf};
 ghost use Rattle.search_tests.specs.Steps.{CanWalk, IsPrepared};
 
 use crate::problems::{SWITCHES, problem_of};
 use crate::table::steps::{find_id, intern_id, part, reach};
-use ground_model::State;
+use ground_model::{GroundProblem, State};
 use ground_step::hash;
 use plan_search::{Opening, Sizes, open};
 use sample_problems::state_of;
+use std::alloc::{AllocError, Global};
 use std::test::Fail;
 use word_table::{Claim, Pass, Words, claim, load_count, publish, write_word};
 
@@ -149,40 +151,59 @@ fn spend(
     id == Some(spare) && !pass.holds_spare() && count == spare.saturating_add(1)
 }
 
-/// With the first two switches on, which is listed, both passes turn the third one on, and then the loser the fourth one.
-#[test]
-fn who_loses_a_race_keeps_its_spare(rt: HostRuntime) -> Result<(), Fail> {
-    let alloc = rt.alloc();
-    let problem = problem_of(alloc, SWITCHES)?;
+/// Whether the loser of a race from a state keeps its spare, on a table with its first pass.
+fn keeps_spare(
+    alloc: Global,
+    words: &Words<'_>,
+    first: &mut Pass,
+    start: &State,
+) -> Result<bool, AllocError>
+    requires here { IsOf words.now first.old }
+    requires free { first.old.view.spare ≡ None }
+    requires rights { first.old.view.rights ≡ 2 }
+{
+    let mut one = state_of(alloc, &[0])?;
+    let mut other = state_of(alloc, &[0])?;
+    let mut next = state_of(alloc, &[0])?;
+    let mut second = part(words, first);
+    let lost = lose(words, first, &mut second, start, &mut one, &mut other);
+    let kept = match lost {
+        None => false,
+        Some(spare) => spend(words, &mut second, start, &other, &mut next, spare),
+    };
+    Ok(kept)
+}
+
+/// Whether the loser of a race from this state of a problem keeps its spare.
+fn races_in(alloc: Global, problem: &GroundProblem, start: &State) -> Result<bool, AllocError> {
     let sizes = Sizes {
         workers: 2,
         states: 4_096,
         sweep_states: 64,
     };
-    let start = state_of(alloc, &[3])?;
-    let mut one = state_of(alloc, &[0])?;
-    let mut other = state_of(alloc, &[0])?;
-    let mut next = state_of(alloc, &[0])?;
     let Opening {
         words,
         pass: mut first,
         extent: _,
-        index: _,
-        near: _,
-    } = open(alloc, &problem, &sizes)?;
-    let mut second = part(&words, &mut first);
-    let lost = lose(
-        &words,
-        &mut first,
-        &mut second,
-        &start,
-        &mut one,
-        &mut other,
-    );
-    let kept = match lost {
-        None => false,
-        Some(spare) => spend(&words, &mut second, &start, &other, &mut next, spare),
-    };
-    assert!(rt; kept);
+        index,
+        near,
+    } = open(alloc, problem, &sizes)?;
+    drop(near);
+    drop(index);
+    let kept = keeps_spare(alloc, &words, &mut first, start);
+    drop(first);
+    drop(words);
+    kept
+}
+
+/// With the first two switches on, which is listed, both passes turn the third one on, and then the loser the fourth one.
+#[test]
+fn who_loses_a_race_keeps_its_spare(rt: HostRuntime) -> Result<(), Fail> {
+    let alloc = rt.alloc();
+    let start = state_of(alloc, &[3])?;
+    let problem = problem_of(alloc, SWITCHES)?;
+    let kept = races_in(alloc, &problem, &start);
+    drop(problem);
+    assert!(rt; kept?);
     Ok(())
 }

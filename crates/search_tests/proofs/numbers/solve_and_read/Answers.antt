@@ -14,8 +14,8 @@ make_crew-requires-clause-near g c =
 pub make_crew-requires-clause-index : goal.make_crew-requires-clause-index
 make_crew-requires-clause-index g c = c.in_ok-words.ensures.index ∙ sym c.in_ok-words.ensures.problem
 
-pub read_beside-requires-clause-near : goal.read_beside-requires-clause-near
-read_beside-requires-clause-near g c κs within =
+pub read_beside-read-requires-clause-near : goal.read_beside-read-requires-clause-near
+read_beside-read-requires-clause-near g c κs within =
     let o = c.in_ok-words.field-0 in let opened = c.in_ok-words.ensures in
-    opened_is_near c.args.problem.now c.args.sizes.now o opened c.requires.sizes c.in_ok-crew.crew
-    (c.in_ok-crew.ensures.has opened.states (still_listed opened.states o.pass c.split-reading.new.pass c.split-reading.ensures.old opened.has))
+    opened_is_near c.args.problem.now c.args.sizes.now o opened c.requires.sizes c.in-Ok.crew
+    (c.in-Ok.ensures.has opened.states (still_listed opened.states o.pass c.split-reading.new.pass c.split-reading.ensures.old opened.has))
