@@ -10,6 +10,8 @@ mod cuts;
 #[cfg(test)]
 mod effects;
 #[cfg(test)]
+mod examples;
+#[cfg(test)]
 mod failures;
 #[cfg(test)]
 mod gates;
