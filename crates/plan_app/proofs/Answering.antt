@@ -10,7 +10,7 @@ use Rattle.ground_model.specs.Ground.{Ground}
 use Rattle.plan_request.specs.declared.effort.Effort.{Effort}
 use Rattle.plan_request.specs.declared.sizes.Sizes.{Sizes}
 use Rattle.plan_request.specs.Asked.{Sources, Solving, Asked, to_solve, to_check, to_serve, to_ground, to_bench}
-use Rattle.plan_report.specs.Line.{line_text}
+use Rattle.plan_request.specs.Laws.{IsInRange}
 use Rattle.plan_search.specs.declared.answer.Answer.{Answer}
 use Rattle.plan_search.specs.Answers.{IsAnswerOf}
 use Rattle.plan_search.specs.Serving.{stop_of, IsServiceOf}
@@ -20,9 +20,10 @@ use Rattle.policy_server.specs.Serving.{input}
 use Rattle.plan_request.specs.declared.stop.Stop.{Stop}
 use Rattle.plan_request.specs.declared.stop.Stop.TheVariants.{BadWords, ReadFailed, WriteFailed, NoMemory, Refused, NotAccepted, Limit}
 use Rattle.plan_request.specs.stop.Stop.{Ending, ending_status, status_of}
-use Rattle.plan_sources.specs.Problems.{one_text, problem_of}
+use Rattle.plan_sources.specs.Problems.{problem_of}
 use Rattle.plan_sources.specs.Sources.{certificate_in}
 use Rattle.plan_sources.specs.Laws.{IsOfTexts, TextsStopSo}
+use Rattle.bench_line.specs.Laws.{LineIsGrounded}
 use Rattle.plan_app.specs.Measuring.{line_sources}
 use Rattle.plan_app.specs.Asking.{Asks, AsksToSearch}
 use Rattle.plan_app.specs.Endings.{said_by, IsJudged, IsTooLongSo, Exchange, exchange, AnswersLine, AnswersCheck, AnswersSearch, AnswersSolve, reported, Lacks, Answers, EndsBehind, Faults, MayEndRequest, HasService, MayEndWords}
@@ -34,6 +35,14 @@ use Rattle.plan_app.proofs.Verdict.{IsOfCertificate, certificate_stops, said_sta
 module _ (l : List ℕ) where
   abbrev Among : Ending → Type 0
   Among e = Contains l (ending_status e)
+
+  searched : Contains l 0 → Contains l 1 → (b : Bool) (text : List ℕ) (e : Ending) → Ok (said_by b text) ≡ e → Among e
+  searched zero one b text e says =
+      subst Among says
+      (elim (said_by_status b text) [
+        | inl is ↦ subst (Contains l) (sym is) zero
+        | inr is ↦ subst (Contains l) (sym is) one
+      ])
 
   module _ (five : Contains l 5) (six : Contains l 6) (eight : Contains l 8) where
     text_stop : (stop : Stop) → IsOfTexts stop → Among (Err stop)
@@ -54,14 +63,6 @@ module _ (l : List ℕ) where
     certificate_stop seven ReadFailed so = absurd so
     certificate_stop seven WriteFailed so = absurd so
 
-    searched : Contains l 0 → Contains l 1 → (b : Bool) (text : List ℕ) (e : Ending) → Ok (said_by b text) ≡ e → Among e
-    searched zero one b text e says =
-        subst Among says
-        (elim (said_by_status b text) [
-          | inl is ↦ subst (Contains l) (sym is) zero
-          | inr is ↦ subst (Contains l) (sym is) one
-        ])
-
     too_long : (g : Ground) (effort : Effort) (sizes : Sizes) (e : Ending) → IsTooLongSo g effort sizes e → Among e
     too_long g effort sizes e (stop, long, says) = subst Among says (subst (Contains l) (sym (ap status_of long.stop_is)) eight)
 
@@ -79,13 +80,13 @@ module _ (l : List ℕ) where
     judged zero seven g (Err stop) bytes read e says =
         subst Among says (certificate_stop seven stop (certificate_stops bytes stop read))
 
-module _ {S I : Type 0} (held : S → List ℕ → Told) (reads writes : S → ℕ) (takes : I → ℕ) (old new : S) (from to : I) (stops : TextsStopSo) where
+module _ {S I : Type 0} (held : S → List ℕ → Told) (reads writes : S → ℕ) (takes : I → ℕ) (old new : S) (from to : I) (stops : TextsStopSo)
+    (lines : LineIsGrounded) where
   -- a search has the same answers with a server and without
   search_answers : (s : Solving) (g : Ground) (Is : Answer → Type 0) (e : Ending) → (Rose (writes old) (writes new) → ⊥)
       → AnswersSearch held writes old new s g Is e → IsAnswerTo (to_solve s) (ending_status e)
   search_answers s g Is e no_rise (inl wrote) =
-      searched (answers_to (to_solve s)) (2, omega arith, refl) (3, omega arith, refl) (4, omega arith, refl)
-      (0, omega arith, refl) (1, omega arith, refl) wrote.answer.converged _ e wrote.says
+      searched (answers_to (to_solve s)) (0, omega arith, refl) (1, omega arith, refl) wrote.answer.converged _ e wrote.says
   search_answers s g Is e no_rise (inr (inl long)) =
       too_long (answers_to (to_solve s)) (2, omega arith, refl) (3, omega arith, refl) (4, omega arith, refl) g s.effort s.sizes e long
   search_answers s g Is e no_rise (inr (inr (says, rose))) = absurd (no_rise rose)
@@ -113,29 +114,27 @@ module _ {S I : Type 0} (held : S → List ℕ → Told) (reads writes : S → �
       texts_stop (answers_to (to_ground s)) (1, omega arith, refl) (2, omega arith, refl) (3, omega arith, refl) stops s stop e
       (so stop refl) says
 
-  line_answers : (places seed : ℕ) (r : Result Ground Stop) (e : Ending) → ((stop : Stop) → r ≡ Err stop → IsOfTexts stop)
-      → AnswersLine places seed r e → IsAnswerTo (to_bench places seed) (ending_status e)
-  line_answers places seed (Ok g) e so measured =
-      searched (answers_to (to_bench places seed)) (2, omega arith, refl) (3, omega arith, refl) (4, omega arith, refl)
-      (0, omega arith, refl) (1, omega arith, refl) measured.measured.converged _ e measured.says
-  line_answers places seed (Err stop) e so says =
-      texts_stop (answers_to (to_bench places seed)) (2, omega arith, refl) (3, omega arith, refl) (4, omega arith, refl) stops
-      line_sources stop e (so stop refl) says
+  line_answers : (places seed : ℕ) (r : Result Ground Stop) (e : Ending) → (g : Ground) × (r ≡ Ok g) → AnswersLine places seed r e
+      → IsAnswerTo (to_bench places seed) (ending_status e)
+  line_answers places seed (Ok g) e is measured =
+      searched (answers_to (to_bench places seed)) (0, omega arith, refl) (1, omega arith, refl) measured.measured.converged _ e measured.says
+  line_answers places seed (Err stop) e (g, is) says = absurd (cc is)
 
   so_stopped : (s : Sources) (t : _) (r : Result Ground Stop) → problem_of s t ≡ r → (stop : Stop) → r ≡ Err stop → IsOfTexts stop
   so_stopped s t r is stop says = stops s t stop (subst (λ x. problem_of s t ≡ x) says is)
 
-  answers_among : (q : Asked) (e : Ending) → Answers held writes old new q e → (Faults reads writes takes old new from to q → ⊥)
-      → IsAnswerTo q (ending_status e)
-  answers_among (to_solve s) e (r, (t, are, is), rest) faults =
+  answers_among : (q : Asked) (e : Ending) → IsInRange q → Answers held writes old new q e
+      → (Faults reads writes takes old new from to q → ⊥) → IsAnswerTo q (ending_status e)
+  answers_among (to_solve s) e within (r, (t, are, is), rest) faults =
       solve_answers s r e (so_stopped s.sources t r is) (λ rose. faults (inr rose)) rest
-  answers_among (to_check s name) e (r, (t, are, is), rest) faults = check_answers s name r e (so_stopped s t r is) rest
-  answers_among (to_serve s) e (stop, (t, are, is), says) faults =
+  answers_among (to_check s name) e within (r, (t, are, is), rest) faults = check_answers s name r e (so_stopped s t r is) rest
+  answers_among (to_serve s) e within (stop, (t, are, is), says) faults =
       texts_stop (answers_to (to_serve s)) (2, omega arith, refl) (3, omega arith, refl) (4, omega arith, refl) stops s.sources stop e
       (stops s.sources t stop is) says
-  answers_among (to_ground s) e (r, (t, are, is), rest) faults = ground_answers s r e (so_stopped s t r is) rest
-  answers_among (to_bench places seed) e (r, is, rest) faults =
-      line_answers places seed r e (so_stopped line_sources (one_text (line_text places seed)) r is) rest
+  answers_among (to_ground s) e within (r, (t, are, is), rest) faults = ground_answers s r e (so_stopped s t r is) rest
+  answers_among (to_bench places seed) e within (r, is, rest) faults =
+      let (g, grounded) = lines line_sources refl places seed within.0.0 within.0.1 in
+      line_answers places seed r e (g, sym is ∙ grounded) rest
 
   memory_among : (q : Asked) → IsAnswerTo q 5
   memory_among (to_solve s) = (2, omega arith, refl)
@@ -152,17 +151,17 @@ module _ {S I : Type 0} (held : S → List ℕ → Told) (reads writes : S → �
   reads_rose (to_bench places seed) rose = rose
 
   -- a request that met no fault has an answer
-  answer_for : (q : Asked) (e : Ending) → MayEndRequest held reads writes old new q e → (Lacks (held old) q → ⊥)
+  answer_for : (q : Asked) (e : Ending) → IsInRange q → MayEndRequest held reads writes old new q e → (Lacks (held old) q → ⊥)
       → (Faults reads writes takes old new from to q → ⊥) → IsAnswerTo q (ending_status e)
-  answer_for q (Ok report) ends lacks faults = answers_among q (Ok report) ends faults
-  answer_for q (Err BadWords) ends lacks faults = answers_among q (Err BadWords) ends faults
-  answer_for q (Err WriteFailed) ends lacks faults = answers_among q (Err WriteFailed) ends faults
-  answer_for q (Err (Refused code file line)) ends lacks faults = answers_among q (Err (Refused code file line)) ends faults
-  answer_for q (Err (NotAccepted code row)) ends lacks faults = answers_among q (Err (NotAccepted code row)) ends faults
-  answer_for q (Err (Limit code most)) ends lacks faults = answers_among q (Err (Limit code most)) ends faults
-  answer_for q (Err NoMemory) ends lacks faults = memory_among q
-  answer_for q (Err ReadFailed) (inl missing) lacks faults = absurd (lacks missing)
-  answer_for q (Err ReadFailed) (inr rose) lacks faults = absurd (faults (reads_rose q rose))
+  answer_for q (Ok report) within ends lacks faults = answers_among q (Ok report) within ends faults
+  answer_for q (Err BadWords) within ends lacks faults = answers_among q (Err BadWords) within ends faults
+  answer_for q (Err WriteFailed) within ends lacks faults = answers_among q (Err WriteFailed) within ends faults
+  answer_for q (Err (Refused code file line)) within ends lacks faults = answers_among q (Err (Refused code file line)) within ends faults
+  answer_for q (Err (NotAccepted code row)) within ends lacks faults = answers_among q (Err (NotAccepted code row)) within ends faults
+  answer_for q (Err (Limit code most)) within ends lacks faults = answers_among q (Err (Limit code most)) within ends faults
+  answer_for q (Err NoMemory) within ends lacks faults = memory_among q
+  answer_for q (Err ReadFailed) within (inl missing) lacks faults = absurd (lacks missing)
+  answer_for q (Err ReadFailed) within (inr rose) lacks faults = absurd (faults (reads_rose q rose))
 
   -- behind a server; 4 is the answer to a fault of the sink
   behind_answers : (s : Solving) (g : Ground) (replies : List Reply) (end : ServeEnd) (o : Option Stop) → stop_of end ≡ o → (e : Ending)
@@ -176,7 +175,7 @@ module _ {S I : Type 0} (held : S → List ℕ → Told) (reads writes : S → �
   ]
 
 module _ {S I : Type 0} (held : S → List ℕ → Told) (reads writes : S → ℕ) (left : I → Option (List ℕ)) (ends takes : I → ℕ)
-    (old new : S) (from to : I) (answers : List ℕ) (stops : TextsStopSo) where
+    (old new : S) (from to : I) (answers : List ℕ) (stops : TextsStopSo) (lines : LineIsGrounded) where
   abbrev x : Exchange
   x = exchange (input left ends takes from) (input left ends takes to) answers
 
@@ -185,19 +184,19 @@ module _ {S I : Type 0} (held : S → List ℕ → Told) (reads writes : S → �
       → (Faults reads writes takes old new from to (to_serve s) → ⊥) → ending_status e ≢ 4 → IsAnswerTo (to_serve s) (ending_status e)
   service_answer s e service faults written = elim service.ends [
     | inl none ↦ subst (IsAnswerTo (to_serve s)) (sym (ap ending_status none)) (2, omega arith, refl)
-    | inr ends ↦ behind_answers held reads writes takes old new from to stops s service.g service.replies service.served.end
+    | inr ends ↦ behind_answers held reads writes takes old new from to stops lines s service.g service.replies service.served.end
         (stop_of service.served.end) refl e ends (λ is. faults (inr (inr (take_rose service.answered is)))) written (λ rose. faults (inr (inl rose)))
   ]
 
-  pub answer_with : (q : Asked) (e : Ending) → MayEndWords held reads writes old new x (Some q) e → (Lacks (held old) q → ⊥)
+  pub answer_with : (q : Asked) (e : Ending) → IsInRange q → MayEndWords held reads writes old new x (Some q) e → (Lacks (held old) q → ⊥)
       → (Faults reads writes takes old new from to q → ⊥) → ending_status e ≢ 4 → IsAnswerTo q (ending_status e)
-  answer_with q e (inl (silent, may_end)) lacks faults written =
-      answer_for held reads writes takes old new from to stops q e may_end lacks faults
-  answer_with (to_serve s) e (inr service) lacks faults written = service_answer s e service faults written
-  answer_with (to_solve s) e (inr service) lacks faults written = absurd service
-  answer_with (to_check s name) e (inr service) lacks faults written = absurd service
-  answer_with (to_ground s) e (inr service) lacks faults written = absurd service
-  answer_with (to_bench places seed) e (inr service) lacks faults written = absurd service
+  answer_with q e within (inl (silent, may_end)) lacks faults written =
+      answer_for held reads writes takes old new from to stops lines q e within may_end lacks faults
+  answer_with (to_serve s) e within (inr service) lacks faults written = service_answer s e service faults written
+  answer_with (to_solve s) e within (inr service) lacks faults written = absurd service
+  answer_with (to_check s name) e within (inr service) lacks faults written = absurd service
+  answer_with (to_ground s) e within (inr service) lacks faults written = absurd service
+  answer_with (to_bench places seed) e within (inr service) lacks faults written = absurd service
 
 -- a certificate that was not written is a fault of its request
 pub write_rose : {S I : Type 0} (reads writes : S → ℕ) (takes : I → ℕ) (old new : S) (from to : I) (words : List (Bor (List ℕ)))

@@ -95,7 +95,7 @@ answers_to (to_solve s) = DONE ∷ GAP_LEFT ∷ NO_MEMORY ∷ REFUSED ∷ LIMIT 
 answers_to (to_check s name) = DONE ∷ NO_MEMORY ∷ REFUSED ∷ NOT_ACCEPTED ∷ LIMIT ∷ []
 answers_to (to_serve s) = DONE ∷ GAP_LEFT ∷ NO_MEMORY ∷ REFUSED ∷ LIMIT ∷ []
 answers_to (to_ground s) = DONE ∷ NO_MEMORY ∷ REFUSED ∷ LIMIT ∷ []
-answers_to (to_bench places seed) = DONE ∷ GAP_LEFT ∷ NO_MEMORY ∷ REFUSED ∷ LIMIT ∷ []
+answers_to (to_bench places seed) = DONE ∷ GAP_LEFT ∷ NO_MEMORY ∷ []
 
 abbrev pub IsAnswerTo : Asked → ℕ → Type 0
 IsAnswerTo q status = Contains (answers_to q) status

@@ -23,6 +23,7 @@ ghost use Rattle.plan_app.specs.Putting.{PutsPart, SaysPut, SaysCutShort};
 
 use crate::certificates::task_certificate_laws;
 use crate::commands::report_of;
+use bench_line::line_laws;
 use certificate::text_laws;
 use certificate_check::check_laws;
 use ground_meaning::{
@@ -144,6 +145,7 @@ pub fn run<R: Threads + Sync, S: Shelf, I: Source + Send, O: Sink + Send, G: Gat
     // The laws on which the clauses rest.
     request_laws();
     source_laws();
+    line_laws();
     text_laws();
     check_laws();
     task_laws();

@@ -11,7 +11,7 @@ use Rattle.plan_app.specs.Asking.{asked_by, AsksToSearch}
 use Rattle.plan_app.specs.Endings.{MayEndAs}
 use Rattle.plan_app.specs.Putting.{PutsAnswers}
 use Rattle.plan_app.specs.Verdicts.{IsAnswerTo}
-use Rattle.plan_app.proofs.Asked.{check_terms, ground_terms, solve_range, serve_range}
+use Rattle.plan_app.proofs.Asked.{asked_range, check_terms, ground_terms, solve_range, serve_range}
 use Rattle.plan_app.proofs.Exchanges.{rose_on}
 use Rattle.plan_app.proofs.Answering.{answer_with, write_rose}
 use Rattle.plan_app.proofs.Statuses.{
@@ -217,5 +217,5 @@ returns-clause-answered g c = λ q asks lacks faults puts.
     let ends = ended_at g c written in
     subst (IsAnswerTo q) (sym ends.status_is)
     (answer_with g.S.Shelf.held g.S.Shelf.read_faults g.S.Shelf.write_faults g.I.Source.left g.I.Source.ends g.I.Source.faults
-    c.args.shelf.now c.report_of-ending.new.shelf c.args.source.now c.report_of-ending.new.source ends.answers c.source_laws.ensures.stops
-    q ends.ending (request_ends ends q asks) lacks faults (subst (λ n. n ≢ WRITE_FAILED) ends.status_is written))
+    c.args.shelf.now c.report_of-ending.new.shelf c.args.source.now c.report_of-ending.new.source ends.answers c.source_laws.ensures.stops c.line_laws.ensures.grounded
+    q ends.ending (asked_range c.request_laws.ensures c.args.words.now q asks) (request_ends ends q asks) lacks faults (subst (λ n. n ≢ WRITE_FAILED) ends.status_is written))

@@ -1,0 +1,3 @@
+pub mod reading
+pub mod grounding
+pub mod Joined

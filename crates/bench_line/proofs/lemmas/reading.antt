@@ -1,0 +1,9 @@
+pub mod Bits
+pub mod Names
+pub mod Spelling
+pub mod Declared
+pub mod Chances
+pub mod Derivation
+pub mod Lower
+pub mod Short
+pub mod Reading

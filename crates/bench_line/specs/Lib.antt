@@ -1,0 +1,2 @@
+pub mod LineTask
+pub mod Laws
