@@ -1,4 +1,5 @@
 pub mod Spreads
 pub mod Walking
+pub mod Unplaced
 pub mod Listing
 pub mod Answered

@@ -10,6 +10,8 @@
 --                              2007): it answers the first action of the least lower mean where that is below the penalty, and
 --                              raises the lower and sinks the upper number; numbers that would cross meet
 --     IsListing l              all numbers are in their ranges
+--     HasUnplacedIn states, HasUnplaced l
+--                              a listed state has no id
 use Rattle.std.specs.Prelude.{◌≡◌, ℕ, suc, ◌+◌, ◌*◌, ◌/◌, ◌^◌, ◌<◌, ◌≤◌, min, max, true, false, cond}
 use Rattle.std.specs.Prelude.{nat_eq, nat_lt, Option, Some, None, List, [], ◌∷◌, length, map, sum, get_or}
 use Rattle.std.specs.Prelude.{All, slice_set}
@@ -44,6 +46,12 @@ interval_at numbers i = get_or numbers i closed
 
 abbrev pub state_at : List ListedState → ℕ → ListedState
 state_at states i = get_or states i absent
+
+abbrev pub HasUnplacedIn : List ListedState → Type 0
+HasUnplacedIn states = (i : ℕ) × (i < length states) × ((state_at states i).placed ≡ false)
+
+abbrev pub HasUnplaced : Listing → Type 0
+HasUnplaced l = HasUnplacedIn l.states
 
 abbrev pub number_of : Side → Interval → ℕ
 number_of Lower x = x.lower

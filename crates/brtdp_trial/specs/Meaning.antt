@@ -4,13 +4,14 @@
 --     weights_of, spreads      of several steps
 --     IsInterval s             the lower number is at most the upper one, and that at most 10^14
 --     HasId s                  the step leads to a state that has an id
+--     UnplacedOnlyWhere p s    that state has none only where p holds
 --     LeadsToKnown knows s     the id that the step leads to, if any, is known
 --     Last                     what the last backup answered, with the choices as they were read
 --     IsAnswerOf l b           b is the answer
 --     AreChoices l             the choices have intervals and positive weights, which sum to the denominator
 --     Told S                   numbers told beforehand by bounds of type S: whether they tell them, the starts, what a
 --                              backup of an id answers, and the bounds after it
-use Rattle.std.specs.Prelude.{◌≡◌, ℕ, ◌-◌, ◌*◌, ◌^◌, ◌<◌, ◌≤◌, Bool, Some, List, length, sum, map, All}
+use Rattle.std.specs.Prelude.{◌≡◌, ℕ, ◌-◌, ◌*◌, ◌^◌, ◌<◌, ◌≤◌, Bool, Some, None, List, length, sum, map, All}
 use Rattle.brtdp_trial.specs.declared.step.Step.{Step}
 use Rattle.brtdp_trial.specs.declared.step.Backed.{Backed}
 
@@ -32,6 +33,9 @@ pub record IsInterval (s : Step) : Type 0 where
 
 abbrev pub HasId : Step → Type 0
 HasId s = (id : ℕ) × (s.id ≡ Some id)
+
+abbrev pub UnplacedOnlyWhere : Type 0 → Step → Type 0
+UnplacedOnlyWhere p s = s.id ≡ None → p
 
 abbrev pub LeadsToKnown : (ℕ → Type 0) → Step → Type 0
 LeadsToKnown knows s = (id : ℕ) → s.id ≡ Some id → knows id

@@ -41,16 +41,16 @@ module _ {S : Type 0} (later : S → S → Type 0) (told : Told S) where
   AreBackedUp (id ∷ ids) s z =
       (u : S) × later s u × (told.tells s ≡ true → u ≡ told.after s id) × AreBackedUp ids u z
 
-module _ {S : Type 0} (later : S → S → Type 0) (last : S → Last) (told : Told S) (draw : ℕ → ℕ)
+module _ {S : Type 0} (later full : S → S → Type 0) (last : S → Last) (told : Told S) (draw : ℕ → ℕ)
     (tau depth : ℕ) where
   abbrev pub FromStart : Option StartDrawn → List Step → List Turn → S → TrialEnd → S → Type 0
   FromStart None steps ts s e z = (ts ≡ []) × (e ≡ Narrow) × (z ≡ s)
   FromStart (Some d) steps ts s e z =
       (x : Step) × (id : ℕ) × (slice_get steps d.index ≡ Some x) × (x.id ≡ Some id)
-      × AreTurns later last told draw (aim_at d tau depth) ts 0 id s e z
+      × AreTurns later full last told draw (aim_at d tau depth) ts 0 id s e z
 
 -- the starts as they were read, the bounds then, and the bounds before the states of the turns are backed up again
-pub record IsTrial {S : Type 0} (later : S → S → Type 0) (weights : S → List ℕ) (last : S → Last)
+pub record IsTrial {S : Type 0} (later full : S → S → Type 0) (weights : S → List ℕ) (last : S → Last)
     (told : Told S) (draw : ℕ → ℕ) (tau depth : ℕ) (s : S) (p : PathView) (e : TrialEnd) (z : S)
     : Type 0 where
   pub steps : List Step
@@ -60,5 +60,5 @@ pub record IsTrial {S : Type 0} (later : S → S → Type 0) (weights : S → Li
   pub by_weight : weights_of steps ≡ weights s
   pub exact : told.tells s ≡ true → (steps ≡ told.starts s) × (read ≡ s)
   pub opening : IsStartDraw (draw 0) steps p.start
-  pub turns : FromStart later last told draw tau depth p.start.drawn steps p.turns read e walked
+  pub turns : FromStart later full last told draw tau depth p.start.drawn steps p.turns read e walked
   pub back : AreBackedUp later told (reverse (ids_of p.turns)) walked z

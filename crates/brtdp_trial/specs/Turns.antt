@@ -6,13 +6,14 @@
 --     onward a n t                   what follows the turn n
 --     IsDrawn r steps total d        d was drawn of the steps by the number r
 --     IsDraw e r steps total d       it was drawn exactly where the trial does not end before
---     IsTurn a n s u t               t is turn n of a trial, from the bounds s to the bounds u
+--     IsTurn a n s u t               t is turn n of a trial, from the bounds s to the bounds u; a choice of its backup has no id only
+--                                    where that backup has found that a state gets none (`full`)
 --     AreTurns ts n id s e z         these are the turns behind turn n; the first is at the state id, from the bounds s to
 --                                    the bounds z, and the trial ends by e
 use Rattle.std.specs.Prelude.{◌≡◌, ℕ, ◌+◌, ◌*◌, ◌%◌, ◌==◌, nat_lt, Bool, true, cond}
-use Rattle.std.specs.Prelude.{Option, Some, None, List, [], ◌∷◌, sum}
+use Rattle.std.specs.Prelude.{Option, Some, None, List, [], ◌∷◌, sum, All}
 use Rattle.std.specs.List.{slice_get}
-use Rattle.brtdp_trial.specs.Meaning.{Last, Told, AreChoices, spreads}
+use Rattle.brtdp_trial.specs.Meaning.{Last, Told, AreChoices, UnplacedOnlyWhere, spreads}
 use Rattle.brtdp_trial.specs.Draws.{IsFirstAbove}
 use Rattle.brtdp_trial.specs.declared.aim.Aim.{Aim}
 use Rattle.brtdp_trial.specs.declared.step.TheConstants.{GIVE_UP}
@@ -57,21 +58,22 @@ abbrev pub IsDraw : Option TrialEnd → ℕ → List Step → ℕ → Option Dra
 IsDraw (Some e) r steps total drawn = drawn ≡ None
 IsDraw None r steps total drawn = (d : Drawn) × (drawn ≡ Some d) × IsDrawn r steps total d
 
-module _ {S : Type 0} (later : S → S → Type 0) (last : S → Last) (told : Told S) (draw : ℕ → ℕ)
+abbrev pub Leads : Onward → (TrialEnd → Type 0) → (ℕ → Type 0) → Type 0
+Leads (Ends e) stop go = stop e
+Leads (Goes id) stop go = go id
+
+module _ {S : Type 0} (later full : S → S → Type 0) (last : S → Last) (told : Told S) (draw : ℕ → ℕ)
     (a : Aim) where
   -- the code, the denominator and the choices are those of the backup, and turn n takes draw n
   pub record IsTurn (n : ℕ) (s u : S) (t : Turn) : Type 0 where
     pub follows : later s u
     pub exact : told.tells s ≡ true → (last u ≡ told.backed s t.id) × (u ≡ told.after s t.id)
     pub choices : AreChoices (last u)
+    pub unplaced : All (UnplacedOnlyWhere (full s u)) (last u).steps
     pub code : t.code ≡ (last u).code
     pub den : t.den ≡ (last u).den
     pub total : t.total ≡ sum (spreads (last u).steps)
     pub drawn : IsDraw (stop_at a n t.code t.den t.total) (draw n) (last u).steps t.total t.drawn
-
-  abbrev pub Leads : Onward → (TrialEnd → Type 0) → (ℕ → Type 0) → Type 0
-  Leads (Ends e) stop go = stop e
-  Leads (Goes id) stop go = go id
 
   abbrev pub AreTurns : List Turn → ℕ → ℕ → S → TrialEnd → S → Type 0
   AreTurns [] n id s e z = ⊥

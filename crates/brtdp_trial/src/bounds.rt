@@ -3,7 +3,7 @@
 ghost use Rattle.std.specs.Prelude.{◌≡◌, ◌<◌, ◌≤◌, ◌^◌, ℕ, true, Some, List, length, sum, All};
 ghost use Rattle.std.specs.List.{slice_get, slice_index};
 ghost use Rattle.brtdp_trial.specs.Meaning.{Last, Told, weights_of, AreChoices, IsInterval};
-ghost use Rattle.brtdp_trial.specs.Meaning.{HasId, LeadsToKnown, IsAnswerOf};
+ghost use Rattle.brtdp_trial.specs.Meaning.{HasId, LeadsToKnown, IsAnswerOf, UnplacedOnlyWhere};
 
 use crate::step::{Backed, Step};
 
@@ -15,6 +15,9 @@ pub trait Bounds {
 
     // the second may follow the first: nothing that was found is forgotten
     ghost later: { Self → Self → Type 0 };
+
+    // between the first and the second it was found that a state gets no id
+    ghost full: { Self → Self → Type 0 };
 
     // the weights of the starts
     ghost weights: { Self → List ℕ };
@@ -54,6 +57,7 @@ pub trait Bounds {
         ensures answer { IsAnswerOf (last self.new) result }
         ensures choices { AreChoices (last self.new) }
         ensures known { All (LeadsToKnown (knows self.new)) (last self.new).steps }
+        ensures unplaced { All (UnplacedOnlyWhere (full self.old self.new)) (last self.new).steps }
         ensures told { told.tells self.old ≡ true
             → (last self.new ≡ told.backed self.old id) × (self.new ≡ told.after self.old id) };
 
@@ -69,6 +73,8 @@ pub trait Bounds {
     ghost trans: { (x y z : Self) → later x y → later y z → later x z };
 
     ghost known_stays: { (x y : Self) (id : ℕ) → later x y → knows x id → knows y id };
+
+    ghost full_stays: { (w x y z : Self) → later w x → full x y → later y z → full w z };
 
     ghost weights_stay: { (x y : Self) → later x y → weights y ≡ weights x };
 }

@@ -3,10 +3,11 @@
 ghost use Rattle.std.specs.Prelude.{◌≡◌, true, map, refl};
 ghost use Rattle.std.specs.List.{slice_get};
 ghost use Rattle.brtdp_trial.specs.Listed.{after, backed, listing_of, no_action};
-ghost use Rattle.brtdp_trial.specs.Listed.{IsListing, starts_of, state_at};
+ghost use Rattle.brtdp_trial.specs.Listed.{HasUnplaced, IsListing, starts_of, state_at};
 ghost use Rattle.brtdp_trial.specs.declared.listed.ListedStart.{ListedStart};
 ghost use Rattle.brtdp_trial.specs.declared.step.TheConstants as code;
-ghost use Rattle.brtdp_trial.specs.Following.{Follows, later_follows, placed_stays, weights_stay};
+ghost use Rattle.brtdp_trial.specs.Following.{Follows, later_follows, placed_stays};
+ghost use Rattle.brtdp_trial.specs.Following.{unplaced_stays, weights_stay};
 
 use crate::answering::back_up;
 use crate::backing::step_to;
@@ -77,6 +78,8 @@ impl Bounds for ListedBounds {
 
     ghost later = { Follows };
 
+    ghost full = { λ l m. HasUnplaced m };
+
     ghost weights = { λ l. map (λ (x : ListedStart). x.weight) l.starts };
 
     ghost last = { λ l. l.last };
@@ -129,6 +132,8 @@ impl Bounds for ListedBounds {
     ghost trans = { later_follows };
 
     ghost known_stays = { placed_stays };
+
+    ghost full_stays = { λ w x y z before unplaced after. unplaced_stays y z after unplaced };
 
     ghost weights_stay = { weights_stay };
 }

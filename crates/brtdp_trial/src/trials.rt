@@ -8,6 +8,7 @@ ghost use Rattle.brtdp_trial.specs.Paths.{ids_of};
 ghost use Rattle.brtdp_trial.specs.Turns.{AreTurns};
 ghost use Rattle.brtdp_trial.specs.Trials.{AreBackedUp, FromStart, IsStartDraw, IsTrial};
 ghost use Rattle.brtdp_trial.specs.declared.start_draw.StartDrawn.{StartDrawn};
+ghost use Rattle.brtdp_trial.specs.declared.ends.TrialEnd.TheVariants as The;
 
 use crate::aim::Aim;
 use crate::bounds::Bounds;
@@ -23,7 +24,8 @@ use crate::turns::{onward_at, take_turn};
 ///
 /// A start is drawn by weight times width. Then each turn backs up a state and draws one of the choices of the
 /// answered action, again by weight times width, until the trial ends. The states of the turns are then
-/// backed up again in reverse order. It takes no memory.
+/// backed up again in reverse order. It ends before a state without an id only where it was seen meanwhile that a
+/// state gets none. It takes no memory.
 pub fn trial<B: Bounds>(
     bounds: &mut B,
     number: u64,
@@ -40,8 +42,9 @@ pub fn trial<B: Bounds>(
     ensures length { result.length ≡ length path.new.turns }
     ensures few { result.length ≤ depth }
     ensures known { All (λ t. B.knows bounds.new t.id) path.new.turns }
-    ensures trial { let Is = IsTrial B.later B.weights B.last B.told (draw_of seed number) tau depth
-        in Is bounds.old path.new result.end bounds.new }
+    ensures trial { let Is = IsTrial B.later B.full B.weights B.last B.told
+        in Is (draw_of seed number) tau depth bounds.old path.new result.end bounds.new }
+    ensures unplaced { result.end ≡ The.Unplaced → B.full bounds.old bounds.new }
 {
     path.begin(number, seed, tau);
     let mut draws = Draws::new(seed, number);
@@ -122,8 +125,8 @@ fn from_start<B: Bounds>(
     ensures later { B.later bounds.old bounds.new }
     ensures same { path.new ≡ record path.old { turns = path.new.turns } }
     ensures known { All (λ t. B.knows bounds.new t.id) path.new.turns }
-    ensures turns { let From = FromStart B.later B.last B.told (draws_of draws.old) tau depth
-        in From start.drawn starts.now path.new.turns bounds.old result bounds.new }
+    ensures turns { let From = FromStart B.later B.full B.last B.told (draws_of draws.old)
+        in From tau depth start.drawn starts.now path.new.turns bounds.old result bounds.new }
 {
     let Some(drawn) = start.drawn else {
         return TrialEnd::Narrow;
@@ -154,7 +157,7 @@ fn walk<B: Bounds>(
     ensures later { B.later bounds.old bounds.new }
     ensures same { path.new ≡ record path.old { turns = path.new.turns } }
     ensures known { All (λ t. B.knows bounds.new t.id) path.new.turns }
-    ensures turns { let Are = AreTurns B.later B.last B.told (draws_of draws.old) aim
+    ensures turns { let Are = AreTurns B.later B.full B.last B.told (draws_of draws.old) aim
         in Are path.new.turns 0 first bounds.old result bounds.new }
 {
     let mut id = first;

@@ -94,7 +94,7 @@ pub(crate) fn take_turn<B: Bounds>(
     ensures later { B.later bounds.old bounds.new }
     ensures id { result.id ≡ id }
     ensures turn { let draw = draw_of draws.old.seed draws.old.number
-        in IsTurn B.later B.last B.told draw aim number bounds.old bounds.new result }
+        in IsTurn B.later B.full B.last B.told draw aim number bounds.old bounds.new result }
     ensures draws { (next : ℕ) → onward aim number result ≡ The.Goes next
         → draws.new ≡ record draws.old { next = draws.old.next + 1 } }
     ensures next { (next : ℕ) → onward aim number result ≡ The.Goes next

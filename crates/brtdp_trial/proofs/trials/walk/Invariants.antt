@@ -10,7 +10,7 @@ use Rattle.brtdp_trial.specs.declared.ends.TrialEnd.{TrialEnd}
 use Rattle.brtdp_trial.proofs.trials.walk.Given as goal
 
 -- `pushed` turns stand, from the bounds s to the bounds u, and the state `id` is next
-pub record Stands {S : Type 0} (knows : S → ℕ → Type 0) (later : S → S → Type 0) (last : S → Last) (told : Told S)
+pub record Stands {S : Type 0} (knows : S → ℕ → Type 0) (later full : S → S → Type 0) (last : S → Last) (told : Told S)
     (a : Aim) (start now : Place) (before path : PathView) (s u : S) (first id pushed : ℕ) : Type 0 where
   pub since : later s u
   pub known : knows u id
@@ -21,11 +21,11 @@ pub record Stands {S : Type 0} (knows : S → ℕ → Type 0) (later : S → S �
   pub all_known : All (λ t. knows u t.id) path.turns
   -- what follows these turns from here follows from the first state
   pub rest : (ts : List Turn) (e : TrialEnd) (z : S)
-      → AreTurns later last told (draw_of start.seed start.number) a ts pushed id u e z
-      → AreTurns later last told (draw_of start.seed start.number) a (path.turns ++ ts) 0 first s e z
+      → AreTurns later full last told (draw_of start.seed start.number) a ts pushed id u e z
+      → AreTurns later full last told (draw_of start.seed start.number) a (path.turns ++ ts) 0 first s e z
 
 abbrev pub invariant-loop-end : goal.invariant-loop-end
-invariant-loop-end g l = Stands g.B.Bounds.knows g.B.Bounds.later g.B.Bounds.last g.B.Bounds.told
+invariant-loop-end g l = Stands g.B.Bounds.knows g.B.Bounds.later g.B.Bounds.full g.B.Bounds.last g.B.Bounds.told
     l.fn.aim l.fn.draws l.draws l.fn.path l.path l.fn.bounds l.bounds l.fn.first l.id l.pushed
 
 abbrev pub decreases-loop-end : goal.decreases-loop-end

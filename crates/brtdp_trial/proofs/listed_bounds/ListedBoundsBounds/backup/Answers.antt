@@ -34,3 +34,12 @@ returns-clause-known c =
     (answered_at_good c.self.inside.penalty c.self.inside.states c.self.inside.numbers c.args.id c.self.invariant.states
     c.self.invariant.numbers c.self.invariant.a_number_each
     (subst (λ (l : Listing). (state_at l.states c.args.id).placed ≡ true) (sym c.self.view_is) c.requires))).1
+
+pub returns-clause-unplaced : goal.returns-clause-unplaced
+returns-clause-unplaced c =
+    (good c.self.inside.penalty c.args.id c.self.inside.states c.as_slice.result.now c.self.inside.numbers c.as_slice-2.result.now
+    (last_in c.back_up-found.result.code c.back_up-found.result.den c.back_up-found.result.steps)
+    c.back_up-found.ensures.answer c.as_slice.ensures c.as_slice-2.ensures
+    (answered_at_good c.self.inside.penalty c.self.inside.states c.self.inside.numbers c.args.id c.self.invariant.states
+    c.self.invariant.numbers c.self.invariant.a_number_each
+    (subst (λ (l : Listing). (state_at l.states c.args.id).placed ≡ true) (sym c.self.view_is) c.requires))).2
