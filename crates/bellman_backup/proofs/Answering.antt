@@ -1,6 +1,7 @@
 -- The choices of an answer.
-use Rattle.std.proofs.Common.{◌≡◌, ℕ, ◌+◌, ◌<◌, ◌≤◌, ◌^◌, List, [], ◌∷◌, refl, sym, ap, ◌∙◌, subst, ⊎_elim, arith}
+use Rattle.std.proofs.Common.{◌≡◌, ℕ, ◌+◌, ◌<◌, ◌≤◌, ◌^◌, List, [], ◌∷◌, refl, sym, ap, ◌∙◌, subst, inl, inr, ⊎_elim, arith}
 use Rattle.std.specs.Prelude.{All, Contains, sum, sum_by}
+use Rattle.std.proofs.lemmas.Bool.{cases_Bool}
 use Rattle.std.proofs.lemmas.List.Sums.{sum-map, sum_by-cons}
 use Rattle.std.specs.List.{AllZip}
 use Rattle.std.proofs.lemmas.List.Elements.{All-nil, All-cons, All-same, All-contains, All-map, Contains-append_right}
@@ -11,14 +12,16 @@ use Rattle.ground_model.specs.Packed.{State}
 use Rattle.ground_model.specs.Choices.{next_state}
 use Rattle.ground_model.specs.Ground.{Ground}
 use Rattle.ground_model.specs.Invariant.{IsGroundProblem}
+use Rattle.ground_model.specs.Steps.{ground_process}
 use Rattle.word_table.specs.declared.view.View.{View}
 use Rattle.word_table.specs.view.Views.{knows}
-use Rattle.brtdp_trial.specs.Meaning.{Last, AreChoices, IsInterval, LeadsToKnown}
+use Rattle.brtdp_trial.specs.Meaning.{Last, AreChoices, IsInterval, LeadsToKnown, UnplacedOnlyWhere}
 use Rattle.brtdp_trial.specs.Meaning as meaning
 use Rattle.brtdp_trial.specs.Listed.{no_action}
+use Rattle.bellman_backup.specs.Races.{FoundFull}
 use Rattle.bellman_backup.specs.Readings.{Reading, IsReading}
 use Rattle.bellman_backup.specs.Candidates.{Found, choice_weights, steps_of, answer_of, IsAnswer, IsFirstBest}
-use Rattle.bellman_backup.specs.Backups.{IsFound}
+use Rattle.bellman_backup.specs.Backups.{IsFound, HasBackedUp}
 use Rattle.bellman_backup.proofs.Narrowing.{action_is}
 
 weights_by_total : (cs : List Choice) → sum_by (λ (c : Choice). c.weight) cs ≡ total (λ (c : Choice). c.weight) cs
@@ -59,6 +62,13 @@ module _ (g : Ground) (v w : View) (s : State) where
   steps_are_known (c ∷ cs) (r ∷ rs) all =
       All-cons (LeadsToKnown (knows w)) _ (steps_of cs rs) (λ id at. (all.0.placed id at).0) (steps_are_known cs rs all.1)
 
+  steps_are_unplaced : (cs : List Choice) (rs : List Reading) → AllZip Between cs rs → All (UnplacedOnlyWhere (FoundFull v w)) (steps_of cs rs)
+  steps_are_unplaced [] [] all = All-nil (UnplacedOnlyWhere (FoundFull v w))
+  steps_are_unplaced [] (r ∷ rs) all = absurd all
+  steps_are_unplaced (c ∷ cs) [] all = absurd all
+  steps_are_unplaced (c ∷ cs) (r ∷ rs) all =
+      All-cons (UnplacedOnlyWhere (FoundFull v w)) _ (steps_of cs rs) (λ at. (next_state s c, (all.0.unplaced at).2)) (steps_are_unplaced cs rs all.1)
+
   best_of : (found : List Found) (last : Last) (best : IsFirstBest g.penalty s found last) → All (IsFound g v w s) found → IsFound g v w s best.best
   best_of found last best each = All-contains (IsFound g v w s) found best.best each
       (subst (λ (xs : List Found). Contains xs best.best) (sym best.split) (Contains-append_right best.before (best.best ∷ best.behind) best.best (Contains-first best.best best.behind)))
@@ -95,3 +105,18 @@ module _ (g : Ground) (v w : View) (s : State) where
       All-same (LeadsToKnown (knows w)) last.steps (steps_of f.action.choices f.readings) (ap (λ (l : Last). l.steps) best.answer)
       (steps_are_known f.action.choices f.readings (best_of found last best each).readings))
       is
+
+  are_unplaced : (found : List Found) (last : Last) → IsAnswer g.penalty s found last → All (IsFound g v w s) found → All (UnplacedOnlyWhere (FoundFull v w)) last.steps
+  are_unplaced found last is each = ⊎_elim
+      (λ quits. All-same (UnplacedOnlyWhere (FoundFull v w)) last.steps [] (ap (λ (l : Last). l.steps) quits.1) (All-nil (UnplacedOnlyWhere (FoundFull v w))))
+      (λ best. let f : Found = best.best in
+      All-same (UnplacedOnlyWhere (FoundFull v w)) last.steps (steps_of f.action.choices f.readings) (ap (λ (l : Last). l.steps) best.answer)
+      (steps_are_unplaced f.action.choices f.readings (best_of found last best each).readings))
+      is
+
+-- a choice of the answer has no id only where the table was found full
+pub backed_unplaced : (g : Ground) (v w : View) (id : ℕ) (last : Last) → HasBackedUp g v w id last → All (UnplacedOnlyWhere (FoundFull v w)) last.steps
+backed_unplaced g v w id last (s, state, (at_goal, off_goal)) = elim (cases_Bool ((ground_process g).goal s)) [
+  | inl on ↦ All-same (UnplacedOnlyWhere (FoundFull v w)) last.steps [] (ap (λ (l : Last). l.steps) (at_goal on).1) (All-nil (UnplacedOnlyWhere (FoundFull v w)))
+  | inr off ↦ let found = off_goal off in are_unplaced g v w s found.0 last found.1.answer found.1.readings.each
+]

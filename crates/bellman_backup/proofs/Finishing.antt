@@ -13,7 +13,7 @@ use Rattle.ground_model.specs.Ground.{Ground}
 use Rattle.ground_model.specs.Invariant.{IsGroundProblem}
 use Rattle.ground_model.specs.Steps.{ground_process}
 use Rattle.applicable_actions.specs.distinct.Enough.{AreEnough}
-use Rattle.applicable_actions.specs.distinct.Laws.{LowerByEnough, UpperByEnough}
+use Rattle.applicable_actions.specs.distinct.Laws.{LowerByEnough, UpperByEnough, SuccessorsByEnough}
 use Rattle.bound_core.specs.Numbers.{quit_word, IsSupported}
 use Rattle.word_table.specs.declared.view.View.{View}
 use Rattle.word_table.specs.view.Views.{number, knows, has_state, seen_lower, seen_upper, noted_lower, noted_upper, CanRaise, CanSink}
@@ -32,7 +32,7 @@ use Rattle.bellman_backup.specs.declared.best.Best.{Best}
 use Rattle.bellman_backup.specs.Races.{has_all}
 use Rattle.bellman_backup.specs.Readings.{Reading, loads_in}
 use Rattle.bellman_backup.specs.Candidates.{Found, codes_of, readings_of, act_word, least_low, least_word, IsAnswer}
-use Rattle.bellman_backup.specs.Backups.{Keeps, IsStateOf, IsFound, IsBackedUp, HasBackedUp, Narrows}
+use Rattle.bellman_backup.specs.Backups.{Keeps, IsStateOf, IsFound, IsBackedUp, HasBackedUp, Narrows, PlacesNext}
 use Rattle.bellman_backup.specs.Totals.{HasReadAction}
 use Rattle.bellman_backup.specs.Choosing.{IsReadAction, HasChosen}
 use Rattle.bellman_backup.specs.Weighing.{HasWeighed, RestsAt, WeighTells, IsNarrowed}
@@ -42,6 +42,7 @@ use Rattle.bellman_backup.proofs.Choosers.{found_stays, chosen_more, are_found}
 use Rattle.bellman_backup.proofs.Narrowing.{can_raise, upper_follows, lower_is_backed, upper_is_backed, goal_is_backed}
 use Rattle.bellman_backup.proofs.AllOpen.{speak_of_all}
 use Rattle.bellman_backup.proofs.Answering.{no_choices, are_choices, are_known}
+use Rattle.bellman_backup.proofs.Placing.{weighed_places, places_between}
 use Rattle.bellman_backup.proofs.Stepping.{problem_of}
 
 -- ---- one action more
@@ -280,6 +281,10 @@ module _ (b : Board) (k k2 k5 : Knowledge) (id : ℕ) (last : Last) (lower word 
 
   pub settled_narrows : UpperByEnough → Narrows b.problem k.view k5.view id
   settled_narrows law = narrows_since b k k2 k5 id last lower word of known second w third one_each law k5 (has_all k5.view) is_raised is_sunk
+
+  pub settled_places : SuccessorsByEnough → PlacesNext b.problem k.view k5.view id
+  settled_places law = places_between b.problem k.view k.view k2.view k5.view id (has_all k.view) ([], refl) third.noted third.looks
+      (weighed_places b k k2 id last lower word law w)
 
   pub settled_choices : AreChoices last
   settled_choices = choices_then b k k2 k5 id last lower word of known second w third one_each

@@ -1,5 +1,5 @@
 -- The same pass later.
-use Rattle.std.proofs.Common.{◌≡◌, ℕ, Bool, true, false, cond, nat_eq, List, [], ◌∷◌, ◌++◌, refl, sym, ap, ◌∙◌, subst, append_assoc, arith}
+use Rattle.std.proofs.Common.{◌≡◌, ℕ, Bool, true, false, cond, nat_eq, List, [], ◌∷◌, ◌++◌, refl, sym, ◌∙◌, subst, arith}
 use Rattle.word_table.specs.declared.view.notes.Look.{Look}
 use Rattle.word_table.specs.declared.view.notes.Look.TheVariants.{End}
 use Rattle.word_table.specs.declared.view.View.{View}
@@ -11,13 +11,9 @@ use Rattle.word_table.specs.Seen.{Board, Knowledge, knowledge, IsOf}
 use Rattle.bound_words.specs.declared.bounds.Interval.{Interval}
 use Rattle.bound_words.specs.Intervals.{with_interval, word_in}
 use Rattle.state_interner.specs.Interned.{AddsLooks}
-use Rattle.bellman_backup.specs.Races.{has_all, has_more_again}
+use Rattle.bellman_backup.specs.Races.{has_all, has_more_again, looks_again}
 use Rattle.bellman_backup.specs.Backups.{Keeps}
 use Rattle.bellman_backup.proofs.NextRead.{Grows}
-
-looks_again : (u v w : View) → AddsLooks u v → AddsLooks v w → AddsLooks u w
-looks_again u v w first second =
-    (second.0 ++ first.0, second.1 ∙ ap (λ ls. second.0 ++ ls) first.1 ∙ sym (append_assoc second.0 first.0 u.looks))
 
 count_looks : (b : Bool) (ls : List Look) → (added : List Look) × (cond b (End ∷ ls) ls ≡ added ++ ls)
 count_looks true ls = (End ∷ [], refl)
@@ -35,7 +31,7 @@ keeps_again b k l m first second = record {
 }
 
 pub grows : (b : Board) (k l : Knowledge) → Keeps b k l → Grows k.view l.view
-grows b k l keeps = record { later = more_is_later k.view l.view keeps.noted; looks = keeps.looks }
+grows b k l keeps = record { later = more_is_later k.view l.view keeps.noted; noted = keeps.noted; looks = keeps.looks }
 
 -- after one step
 pub keeps_step : (b : Board) (k l : Knowledge) (w : View) → IsOf b k → l ≡ knowledge k.table w → w.live ≡ k.view.live → w.rights ≡ k.view.rights

@@ -8,7 +8,7 @@ use native.Mathlib.Decide.{dec_lt}
 use Rattle.fixed_round.specs.Words.{word_of}
 use Rattle.ground_model.specs.declared.action.GroundAction.{GroundAction}
 use Rattle.ground_model.specs.Invariant.{IsGroundProblem}
-use Rattle.applicable_actions.specs.distinct.Laws.{UpperByEnough}
+use Rattle.applicable_actions.specs.distinct.Laws.{UpperByEnough, SuccessorsByEnough}
 use Rattle.bound_core.specs.Numbers.{quit_word}
 use Rattle.word_table.specs.view.Views.{number, knows, noted_lower, noted_upper}
 use Rattle.word_table.specs.view.Steps.{with_lower_load, with_upper_load}
@@ -25,13 +25,14 @@ use Rattle.kept_transitions.specs.Rows.{Transitions}
 use Rattle.bellman_backup.specs.declared.best.Best.{Best}
 use Rattle.bellman_backup.specs.declared.least.Least.{Least}
 use Rattle.bellman_backup.specs.declared.sums.Sums.{Sums}
-use Rattle.bellman_backup.specs.Backups.{Keeps, Narrows}
+use Rattle.bellman_backup.specs.Backups.{Keeps, Narrows, PlacesNext}
 use Rattle.bellman_backup.specs.Kept.{IsKeptState}
 use Rattle.bellman_backup.specs.Weighing.{HasWeighed}
 use Rattle.bellman_backup.specs.Leasts.{HasSummed, HasLeast, CanNarrow}
 use Rattle.bellman_backup.proofs.Keeping.{keeps_all, keeps_again, keeps_lower_load, keeps_upper_load, grows}
 use Rattle.bellman_backup.proofs.Choosers.{none_chosen}
 use Rattle.bellman_backup.proofs.Narrowing.{narrows_earlier}
+use Rattle.bellman_backup.proofs.Placing.{weighed_places, places_between}
 use Rattle.bellman_backup.proofs.Finishing.{has_weighed, narrows_since}
 use Rattle.bellman_backup.proofs.KeptReads.{KeptSoFar, KeptChosen, chosen_goes_on, chosen_ends, state_is_recalled}
 
@@ -174,6 +175,10 @@ module _ (b : Board) (k k' k0 k1 k2 : Knowledge) (id lower upper : ℕ) (t : Tra
       (sunk : noted_upper k3.view id ≤ least.word) where
     pub narrow_keeps : Keeps b k k3
     narrow_keeps = keeps_again b k k0 k3 loaded (keeps_again b k0 k2 k3 since narrowed)
+
+    pub narrow_places : SuccessorsByEnough → PlacesNext b.problem k.view k3.view id
+    narrow_places law = places_between b.problem k.view k0.view k2.view k3.view id loaded.noted loaded.looks narrowed.noted narrowed.looks
+        (weighed_places b k0 k2 id (last_in has.best.code has.best.den has.chosen) has.best.lower has.best.word law weighed)
 
     pub narrow_narrows : UpperByEnough → Narrows b.problem k.view k3.view id
     narrow_narrows law =

@@ -6,6 +6,7 @@ pub mod Choosers
 pub mod AllOpen
 pub mod Narrowing
 pub mod Answering
+pub mod Placing
 pub mod Stepping
 pub mod OpenCodes
 pub mod Finishing

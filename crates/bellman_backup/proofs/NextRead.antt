@@ -1,26 +1,23 @@
 -- What was read of a state that may follow.
-use Rattle.std.proofs.Common.{◌≡◌, ℕ, ◌<◌, ◌≤◌, true, false, cond, nat_eq, Some, None, List, [], refl, sym, ap, ◌∙◌, subst, inl, inr, arith}
-use Rattle.std.specs.Prelude.{IsTrue, Option, ◌++◌}
+use Rattle.std.proofs.Common.{◌≡◌, ℕ, ◌<◌, ◌≤◌, true, false, cond, nat_eq, Some, None, [], refl, sym, ap, subst, inl, inr, arith}
+use Rattle.std.specs.Prelude.{IsTrue, Option}
 use Rattle.std.proofs.lemmas.Bool.{cases_Bool, eq-eqb}
-use Rattle.std.proofs.lemmas.List.{append_assoc}
-use Rattle.std.proofs.lemmas.List.Elements.{Contains-append_left, Contains-append_right}
 use Rattle.fixed_round.specs.Words.{value_of}
 use Rattle.ground_model.specs.Packed.{State}
 use Rattle.ground_model.specs.Ground.{Ground}
 use Rattle.ground_model.specs.Steps.{ground_process}
 use Rattle.bound_core.specs.Numbers.{first_word, goal_word, quit_word}
-use Rattle.word_table.specs.declared.view.notes.Look.{Look}
-use Rattle.word_table.specs.declared.view.notes.Look.TheVariants.{End}
 use Rattle.word_table.specs.declared.view.View.{View}
 use Rattle.word_table.specs.view.Views.{number, knows, has_state, seen_lower, seen_upper, noted_lower, noted_upper}
-use Rattle.word_table.specs.view.Laws.{IsLater}
+use Rattle.word_table.specs.view.Laws.{HasMore, IsLater}
 use Rattle.word_table.proofs.lemmas.view.Lists.{is_first}
 use Rattle.word_table.proofs.lemmas.view.Seen.{greatest_over, least_under, least_first, seen_lower_is_greatest, seen_upper_is_least, later_is_reflexive, raised_is_seen, sunk_is_seen}
 use Rattle.word_table.specs.rule.Told.{HasOneEach}
 use Rattle.bound_words.specs.declared.bounds.Interval.{Interval}
 use Rattle.bound_words.specs.Intervals.{with_interval, word_in, TellsInterval}
-use Rattle.state_interner.specs.Interned.{AddsLooks, HasLooked, IsIdOf, IsFull}
-use Rattle.bellman_backup.specs.Readings.{Reading, IsReading, IsRead}
+use Rattle.state_interner.specs.Interned.{AddsLooks, IsIdOf, IsFull}
+use Rattle.bellman_backup.specs.Races.{has_all, full_between}
+use Rattle.bellman_backup.specs.Readings.{Reading, WasFull, IsReading, IsRead}
 
 -- ---- first words
 
@@ -63,19 +60,22 @@ some_is_not_none i same = cc
 -- a later view, which has made the same looks and more
 pub record Grows (v w : View) : Type 0 where
   pub later : IsLater v w
+  pub noted : HasMore v w
   pub looks : AddsLooks v w
 
 pub grows_all : (v : View) → Grows v v
-grows_all v = record { later = later_is_reflexive v; looks = ([], refl) }
+grows_all v = record { later = later_is_reflexive v; noted = has_all v; looks = ([], refl) }
 
-looked_stays : (u v w x : View) (look : Look) → AddsLooks u v → AddsLooks w x → HasLooked v w look → HasLooked u x look
-looked_stays u v w x look before after is =
-    let added : List Look = after.0 ++ (is.0 ++ before.0) in (
-      added,
-      after.1 ∙ ap (λ ls. after.0 ++ ls) (is.1 ∙ ap (λ ls. is.0 ++ ls) before.1 ∙ sym (append_assoc is.0 before.0 u.looks))
-          ∙ sym (append_assoc after.0 (is.0 ++ before.0) u.looks),
-      Contains-append_right after.0 (is.0 ++ before.0) look (Contains-append_left is.0 before.0 look is.2),
-    )
+full_now : (v w : View) (t : State) → IsFull v t w → WasFull v t w
+full_now v w t full = record {
+  before = v;
+  after = w;
+  noted_before = has_all v;
+  looks_before = ([], refl);
+  full = full;
+  noted_after = has_all w;
+  looks_after = ([], refl);
+}
 
 abbrev pub reading_of : ℕ → Interval → Reading
 reading_of id i = record { id = Some id; lower = i.lower; word = word_in i }
@@ -115,7 +115,7 @@ none_is_read g v w t grows same full =
       within_quit = within;
       within_first = omega arith;
       placed = λ j is. absurd (none_is_not_some j is);
-      unplaced = λ is. (refl, refl, full.end);
+      unplaced = λ is. (refl, refl, full_now v w t full);
       missing = λ is id had. full.missing.none id (grows.later.states id t had);
     }
 
@@ -130,7 +130,8 @@ read_stays g u v w x t r before after is = record {
   within_quit = is.within_quit;
   within_first = is.within_first;
   placed = λ id at. (after.later.known id (is.placed id at).0, after.later.states id t (is.placed id at).1);
-  unplaced = λ at. ((is.unplaced at).0, (is.unplaced at).1, looked_stays u v w x End before.looks after.looks (is.unplaced at).2);
+  unplaced = λ at.
+      ((is.unplaced at).0, (is.unplaced at).1, full_between u v w x t before.noted before.looks (is.unplaced at).2 after.noted after.looks);
   missing = λ at id had. is.missing at id (before.later.states id t had);
 }
 

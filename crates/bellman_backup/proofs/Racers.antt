@@ -51,6 +51,7 @@ races_by b k l x y of keeps same = record {
   table = keeps.here.table ∙ sym of.table;
   live = keeps.here.view.live ∙ sym of.view.live;
   noted = keeps.noted;
+  looks = keeps.looks;
   rights = keeps.rights;
   problem = same;
 }

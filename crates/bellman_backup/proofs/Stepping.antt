@@ -45,7 +45,7 @@ pub keeps_interned : (b : Board) (k l : Knowledge) → GoesOn b k l → Keeps b 
 keeps_interned b k l on = record { here = on.here; noted = on.noted; rights = on.rights; looks = on.looks }
 
 interned_grows : (b : Board) (k l : Knowledge) → GoesOn b k l → Grows k.view l.view
-interned_grows b k l on = record { later = more_is_later k.view l.view on.noted; looks = on.looks }
+interned_grows b k l on = record { later = more_is_later k.view l.view on.noted; noted = on.noted; looks = on.looks }
 
 pub problem_of : (b : Board) (k : Knowledge) → IsOf b k → k.view.problem ≡ b.problem
 problem_of b k of = of.view.problem

@@ -9,10 +9,13 @@
 --     HasBackedUp g v w id last  at a goal nothing is read; elsewhere so it is for what was read of all open actions
 --     IsBackedUp g v w s         w has seen of s at least the rounded backup of what v had seen of the next states
 --     Narrows g v w id           so it is with each state that v has id with
-use Rattle.std.specs.Prelude.{◌≡◌, ℕ, ◌<◌, ◌≤◌, true, false, IsTrue, Some, List, ◌++◌, All, AllPairs, Contains}
+--     IsPlacedOrFull v w t       w has the state t with an id that it knows, or a look for t has found the table full since v
+--     PlacesNext g v w id        so it is with each state that follows one that v has id with
+use Rattle.std.specs.Prelude.{◌≡◌, ◌⊎◌, ℕ, ◌<◌, ◌≤◌, true, false, IsTrue, Some, List, ◌++◌, All, AllPairs, Contains}
 use Rattle.std.specs.List.{slice_get, AllZip}
 use Rattle.fixed_round.specs.Words.{value_of}
 use Rattle.decision_process.specs.Backup.{lower_backup, upper_backup}
+use Rattle.decision_process.specs.Levels.{successors}
 use Rattle.ground_model.specs.Packed.{State}
 use Rattle.ground_model.specs.Choices.{next_state}
 use Rattle.ground_model.specs.Ground.{Ground}
@@ -21,11 +24,11 @@ use Rattle.word_table.specs.declared.view.View.{View}
 use Rattle.word_table.specs.view.Views.{has_state, noted_lower, noted_upper, seen_lower, seen_upper}
 use Rattle.word_table.specs.view.Laws.{HasMore}
 use Rattle.word_table.specs.Seen.{Board, Knowledge, IsOf}
-use Rattle.state_interner.specs.Interned.{AddsLooks}
+use Rattle.state_interner.specs.Interned.{AddsLooks, HasOwn}
 use Rattle.brtdp_trial.specs.declared.step.TheConstants.{AT_GOAL}
 use Rattle.brtdp_trial.specs.Meaning.{Last}
 use Rattle.brtdp_trial.specs.Listed.{no_action}
-use Rattle.bellman_backup.specs.Readings.{IsReading, loads_in}
+use Rattle.bellman_backup.specs.Readings.{WasFull, IsReading, loads_in}
 use Rattle.bellman_backup.specs.Candidates.{Found, HasOneFor, codes_of, readings_of, IsAnswer, least_low, least_word}
 
 pub record Keeps (b : Board) (old new : Knowledge) : Type 0 where
@@ -37,6 +40,9 @@ pub record Keeps (b : Board) (old new : Knowledge) : Type 0 where
 pub record IsStateOf (v w : View) (id : ℕ) (s : State) : Type 0 where
   pub has : IsTrue (has_state w id s)
   pub one : (t : State) → IsTrue (has_state v id t) → t ≡ s
+
+abbrev pub IsPlacedOrFull : View → View → State → Type 0
+IsPlacedOrFull v w t = ((id : ℕ) × HasOwn w t id) ⊎ WasFull v t w
 
 module _ (g : Ground) (v w : View) where
   pub record IsFound (s : State) (f : Found) : Type 0 where
@@ -73,3 +79,7 @@ module _ (g : Ground) (v w : View) where
 
   abbrev pub Narrows : ℕ → Type 0
   Narrows id = (s : State) → IsTrue (has_state v id s) → IsBackedUp s
+
+  abbrev pub PlacesNext : ℕ → Type 0
+  PlacesNext id = (s : State) → IsTrue (has_state v id s)
+      → (t : State) → Contains (successors (ground_process g) s) t → IsPlacedOrFull v w t

@@ -2,15 +2,19 @@
 --     IsReady b k x              a pass and a scratch of the words; the pass may claim an id and knows the starts
 --     IsRacing b k x             the same, with ids found by a test
 --     Races b k x c l y          the same words, the same pass later, and a scratch of the same problem
+--     FoundFull v w              between v and w a look for a state has found the table full
 -- The laws of this.
-use Rattle.std.proofs.Common.{◌≡◌, ℕ, ◌<◌, refl, ap, ◌∙◌}
+use Rattle.std.proofs.Common.{◌≡◌, ℕ, ◌<◌, [], ◌++◌, refl, sym, ap, ◌∙◌, append_assoc}
 use Rattle.std.specs.Prelude.{length, map, nat_eq, true}
 use Rattle.std.specs.List.{list_any}
 use Rattle.ground_model.specs.declared.start.Start.{Start}
+use Rattle.ground_model.specs.Packed.{State}
 use Rattle.word_table.specs.declared.view.View.{View}
 use Rattle.word_table.specs.view.Views.{knows}
 use Rattle.word_table.specs.view.Laws.{HasMore}
 use Rattle.word_table.specs.Seen.{Board, Knowledge, IsOf}
+use Rattle.state_interner.specs.Interned.{AddsLooks}
+use Rattle.bellman_backup.specs.Readings.{WasFull}
 use Rattle.bellman_backup.specs.Scratches.{ScratchView, IsScratchOf}
 
 pub record IsReady (b : Board) (k : Knowledge) (x : ScratchView) : Type 0 where
@@ -31,8 +35,12 @@ pub record Races (b : Board) (k : Knowledge) (x : ScratchView) (c : Board) (l : 
   pub table : l.table ≡ k.table
   pub live : l.view.live ≡ k.view.live
   pub noted : HasMore k.view l.view
+  pub looks : AddsLooks k.view l.view
   pub rights : l.view.rights ≡ k.view.rights
   pub problem : y.problem ≡ x.problem
+
+abbrev pub FoundFull : View → View → Type 0
+FoundFull v w = (t : State) × WasFull v t w
 
 pub has_all : (v : View) → HasMore v v
 has_all v = record {
@@ -56,12 +64,34 @@ has_more_again u v w first second = record {
   upper = λ n there. second.upper n (first.upper n there);
 }
 
+pub looks_again : (u v w : View) → AddsLooks u v → AddsLooks v w → AddsLooks u w
+looks_again u v w first second =
+    (second.0 ++ first.0, second.1 ∙ ap (λ ls. second.0 ++ ls) first.1 ∙ sym (append_assoc second.0 first.0 u.looks))
+
+pub full_between : (u v w x : View) (t : State) → HasMore u v → AddsLooks u v → WasFull v t w
+    → HasMore w x → AddsLooks w x → WasFull u t x
+full_between u v w x t more looks was noted looked = record {
+  before = was.before;
+  after = was.after;
+  noted_before = has_more_again u v was.before more was.noted_before;
+  looks_before = looks_again u v was.before looks was.looks_before;
+  full = was.full;
+  noted_after = has_more_again was.after w x was.noted_after noted;
+  looks_after = looks_again was.after w x was.looks_after looked;
+}
+
+pub found_full_between : (u v w x : View) → HasMore u v → AddsLooks u v → FoundFull v w
+    → HasMore w x → AddsLooks w x → FoundFull u x
+found_full_between u v w x more looks was noted looked =
+    (was.0, full_between u v w x was.0 more looks was.1 noted looked)
+
 pub races_on : (b : Board) (k : Knowledge) (x : ScratchView) → Races b k x b k x
 races_on b k x = record {
   words = refl;
   table = refl;
   live = refl;
   noted = has_all k.view;
+  looks = ([], refl);
   rights = refl;
   problem = refl;
 }
@@ -73,6 +103,7 @@ races_again b k x c l y d m z first second = record {
   table = second.table ∙ first.table;
   live = second.live ∙ first.live;
   noted = has_more_again k.view l.view m.view first.noted second.noted;
+  looks = looks_again k.view l.view m.view first.looks second.looks;
   rights = second.rights ∙ first.rights;
   problem = second.problem ∙ first.problem;
 }

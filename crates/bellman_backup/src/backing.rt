@@ -5,7 +5,7 @@ ghost use Rattle.word_table.specs.view.Views.{knows};
 ghost use Rattle.word_table.specs.Seen.{IsOf};
 ghost use Rattle.brtdp_trial.specs.Meaning.{IsAnswerOf, AreChoices, LeadsToKnown};
 ghost use Rattle.bellman_backup.specs.Scratches.{IsScratchOf};
-ghost use Rattle.bellman_backup.specs.Backups.{Keeps, HasBackedUp, Narrows};
+ghost use Rattle.bellman_backup.specs.Backups.{Keeps, HasBackedUp, Narrows, PlacesNext};
 
 use crate::recalling::weigh_kept;
 use crate::scratch::Scratch;
@@ -37,6 +37,7 @@ pub fn backup(words: &Words<'_>, pass: &mut Pass, id: u32, scratch: &mut Scratch
     ensures known { All (LeadsToKnown (knows pass.new.view)) scratch.new.last.steps }
     ensures backed { HasBackedUp words.now.problem pass.old.view pass.new.view id scratch.new.last }
     ensures narrows { Narrows words.now.problem pass.old.view pass.new.view id }
+    ensures places { PlacesNext words.now.problem pass.old.view pass.new.view id }
 {
     enough_laws();
     match weigh_kept(words, pass, id, scratch) {

@@ -47,10 +47,13 @@ impl<'a, 'w, 'p> Bounds for Racing<'a, 'w, 'p> {
     ghost use Rattle.word_table.specs.view.Views.{knows};
     ghost use Rattle.brtdp_trial.specs.Listed.{no_action};
     ghost use Rattle.bellman_backup.specs.Races.{Races, races_on, races_again, weights_still};
+    ghost use Rattle.bellman_backup.specs.Races.{FoundFull, found_full_between};
 
     ghost knows = { λ r id. knows r.pass.view id };
 
     ghost later = { λ r s. Races r.words.now r.pass r.scratch s.words.now s.pass s.scratch };
+
+    ghost full = { λ r s. FoundFull r.pass.view s.pass.view };
 
     ghost weights = { λ r. map (λ (x : Start). x.weight) r.words.now.problem.starts };
 
@@ -92,6 +95,9 @@ impl<'a, 'w, 'p> Bounds for Racing<'a, 'w, 'p> {
         y.words.now y.pass y.scratch z.words.now z.pass z.scratch a b };
 
     ghost known_stays = { λ x y id a known. a.noted.known id known };
+
+    ghost full_stays = { λ w x y z a full c. found_full_between w.pass.view x.pass.view
+        y.pass.view z.pass.view a.noted a.looks full c.noted c.looks };
 
     ghost weights_stay = { λ x y a. weights_still x.words.now y.words.now a.words };
 }

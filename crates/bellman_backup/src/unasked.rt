@@ -10,7 +10,7 @@ ghost use Rattle.word_table.specs.rule.Told.{HasOneEach};
 ghost use Rattle.word_table.specs.Seen.{IsOf};
 ghost use Rattle.bellman_backup.specs.Scratches.{IsScratchOf};
 ghost use Rattle.bellman_backup.specs.Odds.{share_of, odds_of};
-ghost use Rattle.bellman_backup.specs.Backups.{Keeps, Narrows};
+ghost use Rattle.bellman_backup.specs.Backups.{Keeps, Narrows, PlacesNext};
 ghost use Rattle.bellman_backup.specs.Kept.{IsKeptAction, AreKept};
 ghost use Rattle.bellman_backup.specs.Leasts.{HasSummed, HasLeast, CanNarrow};
 
@@ -170,6 +170,7 @@ pub fn narrow(words: &Words<'_>, pass: &mut Pass, id: u32, scratch: &mut Scratch
     ensures scratch { IsScratchOf words.now scratch.new }
     ensures problem { scratch.new.problem ≡ scratch.old.problem }
     ensures narrows { Narrows words.now.problem pass.old.view pass.new.view id }
+    ensures places { PlacesNext words.now.problem pass.old.view pass.new.view id }
 {
     enough_laws();
     let place = place_of(&scratch.near, &scratch.kept, id);

@@ -1,4 +1,5 @@
-use Rattle.bellman_backup.proofs.Finishing.{narrows_at_goal, backed_at_goal, choices_at_goal, known_at_goal, settled_keeps, settled_narrows, settled_choices, settled_known, settled_backed}
+use Rattle.bellman_backup.proofs.Finishing.{narrows_at_goal, backed_at_goal, choices_at_goal, known_at_goal, settled_keeps, settled_narrows, settled_places, settled_choices, settled_known, settled_backed}
+use Rattle.bellman_backup.proofs.Placing.{places_at_goal}
 use Rattle.bellman_backup.proofs.backing.backup.Goals as goal
 
 pub settle-requires-clause-can : goal.settle-requires-clause-can
@@ -42,3 +43,10 @@ returns-in-Some-clause-backed c = settled_backed c.args.words.now c.args.pass.no
 pub returns-in-Some-clause-narrows : goal.returns-in-Some-clause-narrows
 returns-in-Some-clause-narrows c = settled_narrows c.args.words.now c.args.pass.now c.weigh_kept.new.pass c.settle.new.pass c.args.id c.weigh_kept.new.scratch.last c.in-Some.best.lower c.in-Some.best.word
     c.requires.here c.requires.known c.in-Some.ensures.keeps c.in-Some.ensures.told c.settle.ensures.one c.settle.ensures.narrowed c.enough_laws.ensures.upper
+
+pub returns-in-None-clause-places : goal.returns-in-None-clause-places
+returns-in-None-clause-places c = places_at_goal c.args.words.now c.args.pass.now c.weigh_kept.new.pass c.args.id c.weigh_kept.new.scratch.last c.in-None.ensures.told
+
+pub returns-in-Some-clause-places : goal.returns-in-Some-clause-places
+returns-in-Some-clause-places c = settled_places c.args.words.now c.args.pass.now c.weigh_kept.new.pass c.settle.new.pass c.args.id c.weigh_kept.new.scratch.last c.in-Some.best.lower c.in-Some.best.word
+    c.requires.here c.requires.known c.in-Some.ensures.keeps c.in-Some.ensures.told c.settle.ensures.one c.settle.ensures.narrowed c.enough_laws.ensures.successors
