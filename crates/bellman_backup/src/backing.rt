@@ -16,7 +16,8 @@ use word_table::{Pass, Words};
 
 /// Backs up an id: reads the intervals of all states that may follow its state, narrows its own by the
 /// least mean cost of an open action, or of giving up, and answers the action that is best by the lower
-/// numbers. At a goal it does nothing, and answers that code.
+/// numbers. Each of these states has an id then, unless a look for it has found the table full. At a goal it does
+/// nothing, and answers that code.
 ///
 /// Each number is read once, so the answer and its choices are those of one reading, whatever other passes do.
 /// The least numbers and the answer go over all open actions. What is loaded are the numbers of some of them:

@@ -24,7 +24,7 @@ use crate::turns::{onward_at, take_turn};
 ///
 /// A start is drawn by weight times width. Then each turn backs up a state and draws one of the choices of the
 /// answered action, again by weight times width, until the trial ends. The states of the turns are then
-/// backed up again in reverse order. It ends before a state without an id only where it was seen meanwhile that a
+/// backed up again in reverse order. It ends before a state without an id only where it was found meanwhile that a
 /// state gets none. It takes no memory.
 pub fn trial<B: Bounds>(
     bounds: &mut B,

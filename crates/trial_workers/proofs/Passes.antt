@@ -1,5 +1,5 @@
 -- The same pass later, and what a meeting brings.
-use Rattle.std.proofs.Common.{◌≡◌, ℕ, ◌+◌, ◌-◌, ◌≤◌, refl, sym, ◌∙◌, subst, arith}
+use Rattle.std.proofs.Common.{◌≡◌, ℕ, ◌+◌, ◌-◌, ◌≤◌, [], refl, sym, ◌∙◌, subst, arith}
 use Rattle.fixed_round.specs.Words.{value_of}
 use Rattle.ground_model.specs.Packed.{State}
 use Rattle.ground_model.specs.Ground.{Ground}
@@ -14,7 +14,7 @@ use Rattle.word_table.proofs.lemmas.view.Seen.{more_is_later}
 use Rattle.word_table.proofs.lemmas.view.Noting.{noted_is_more, united_is_more}
 use Rattle.word_table.specs.Seen.{Board, Knowledge, knowledge, IsOf, with_rights}
 use Rattle.bellman_backup.specs.Scratches.{ScratchView, IsScratchOf}
-use Rattle.bellman_backup.specs.Races.{IsReady, Races, has_all, has_more_again}
+use Rattle.bellman_backup.specs.Races.{IsReady, Races, has_all, has_more_again, looks_again}
 use Rattle.bellman_backup.specs.Backups.{Keeps, Narrows}
 use Rattle.bellman_backup.specs.means.Means.{seen_value}
 use Rattle.trial_workers.specs.Workers.{Stays}
@@ -22,17 +22,18 @@ use Rattle.trial_workers.specs.Workers.{Stays}
 -- ---- the same pass later
 
 pub stays_all : (b : Board) (k : Knowledge) → IsOf b k → Stays b k k
-stays_all b k here = record { here = here; noted = has_all k.view; rights = refl }
+stays_all b k here = record { here = here; noted = has_all k.view; looks = ([], refl); rights = refl }
 
 pub stays_again : (b : Board) (k l m : Knowledge) → Stays b k l → Stays b l m → Stays b k m
 stays_again b k l m first second = record {
   here = second.here;
   noted = has_more_again k.view l.view m.view first.noted second.noted;
+  looks = looks_again k.view l.view m.view first.looks second.looks;
   rights = second.rights ∙ first.rights;
 }
 
 pub keeps_stays : (b : Board) (k l : Knowledge) → Keeps b k l → Stays b k l
-keeps_stays b k l keeps = record { here = keeps.here; noted = keeps.noted; rights = keeps.rights }
+keeps_stays b k l keeps = record { here = keeps.here; noted = keeps.noted; looks = keeps.looks; rights = keeps.rights }
 
 -- ---- meetings
 
@@ -44,6 +45,7 @@ meets b k l m of other is =
       record {
         here = record { table = of.table; view = record { live = of.view.live; problem = of.view.problem; layout = of.view.layout } };
         noted = both.0;
+        looks = ([], refl);
         rights = (let r : k.view.rights + 0 ≡ k.view.rights = omega arith in r);
       },
       has_more_again l.view (without_rights l.view) (united k.view (without_rights l.view)) (noted_is_more l.view).rights both.1,
@@ -84,6 +86,7 @@ raced_stays b k x c l y d m z of board pass races =
         view = record { live = races.live ∙ here.view.live; problem = races.noted.problem ∙ here.view.problem; layout = races.noted.layout ∙ here.view.layout };
       };
       noted = races.noted;
+      looks = races.looks;
       rights = races.rights;
     })
 

@@ -1,19 +1,25 @@
 -- The parts of a round, one behind the other.
-use Rattle.std.proofs.Common.{◌≡◌, ℕ, zero, suc, ◌+◌, ◌-◌, ◌*◌, ◌/◌, ◌<◌, ◌≤◌, Some, List, [], ◌∷◌, length, get_or, All, refl, sym, ap, ◌∙◌, subst, arith}
+use Rattle.std.proofs.Common.{◌≡◌, ℕ, zero, suc, ◌+◌, ◌-◌, ◌*◌, ◌/◌, ◌<◌, ◌≤◌, Some, List, [], ◌∷◌, length, get_or, All, refl, sym, ap, ◌∙◌, subst, inl, inr, ⊎_elim, arith}
+use Rattle.std.specs.Prelude.{Contains, IsTrue, ◌⊎◌}
 use Rattle.std.specs.List.{slice_get, AllZip}
 use Rattle.std.proofs.lemmas.List.Elements.{AllZip-get_or, length_all_zip}
-use Rattle.std.proofs.lemmas.Option.{slice_get_within, get_or_from_slice_get}
+use Rattle.std.proofs.lemmas.Option.{slice_get_within, slice_get-get_or, get_or_from_slice_get}
 use Rattle.std.proofs.Math.Nat.{mul-div_cancel_left, div-zero, zero-div, div-le_of_le-mul, mul-le-mul_right}
 use mathlib.Core.Logic.{dite}
 use native.Mathlib.Decide.{dec_le}
+use Rattle.decision_process.specs.Levels.{successors}
+use Rattle.ground_model.specs.Packed.{State}
+use Rattle.ground_model.specs.Steps.{ground_process}
 use Rattle.word_table.specs.declared.view.View.{View}
-use Rattle.word_table.specs.view.Views.{knows}
+use Rattle.word_table.specs.view.Views.{knows, has_state}
 use Rattle.word_table.specs.view.Laws.{HasMore}
+use Rattle.word_table.proofs.lemmas.view.Seen.{has_state_more}
 use Rattle.word_table.specs.Seen.{Board, Knowledge}
+use Rattle.state_interner.specs.Interned.{HasOwn}
 use Rattle.brtdp_trial.specs.declared.turn.Turn.{Turn}
 use Rattle.brtdp_trial.specs.Paths.{PathView}
-use Rattle.bellman_backup.specs.Races.{has_more_again}
-use Rattle.bellman_backup.specs.Backups.{Narrows}
+use Rattle.bellman_backup.specs.Races.{full_between, has_more_again}
+use Rattle.bellman_backup.specs.Backups.{IsPlacedOrFull, Narrows, PlacesNext}
 use Rattle.trial_workers.specs.declared.effort.Effort.{Effort}
 use Rattle.trial_workers.specs.declared.parts.Division.{Division}
 use Rattle.trial_workers.specs.declared.worker.Worker.{Worker}
@@ -21,7 +27,7 @@ use Rattle.trial_workers.specs.Parts.{share_of, with_part, IsDivision}
 use Rattle.trial_workers.specs.Trials.{IsSeededTrial}
 use Rattle.trial_workers.specs.Workers.{Stays, IsFit, IsWorkerOf, ShowsTrials, CanTakePart, HasTakenPart}
 use Rattle.trial_workers.specs.Rounds.{CanMeet, with_pass, IsPrepared, ArePrepared, AllPrepared, HasHeard, HaveMet}
-use Rattle.trial_workers.specs.Crews.{IsCrewOf, HaveStayed, HasTrials, HaveTrials}
+use Rattle.trial_workers.specs.Crews.{IsCrewOf, HaveStayed, HasTrials, HaveTrials, OneWasFull, ArePlacedOrFull}
 use Rattle.trial_workers.proofs.Passes.{stays_all, stays_again, narrows_wider}
 
 -- ---- lists side by side
@@ -181,6 +187,7 @@ trial_noted b e number v w p more is = record {
   noted = has_more_again is.to.pass.view v w is.noted more;
   end = is.end;
   is = is.is;
+  unplaced = is.unplaced;
 }
 
 -- a worker that learns more shows the same trials
@@ -244,6 +251,7 @@ pub record RoundDone (b : Board) (d : Division) (e : Effort) (number : ℕ) (os 
   pub stayed : HaveStayed b os ns
   pub trials : HaveTrials b e number ns
   pub swept : FirstNarrows b d.swept os ns
+  pub placed : ArePlacedOrFull b.problem d.swept os ns
 
 module _ (b : Board) (d : Division) (e : Effort) (number : ℕ) (first : d.first_trial ≡ number * e.trials) (items : d.trials ≡ e.trials) where
   -- each id is in the range of one worker, which had heard worker 0 and which worker 0 has heard
@@ -259,6 +267,35 @@ module _ (b : Board) (d : Division) (e : Effort) (number : ℕ) (first : d.first
         let from : (get_or ms k o).first_id ≤ id = subst (λ j. j ≤ id) (sym (ap (λ (x : Worker). x.first_id) p.part)) r.2 in
         let past : id < (get_or ms k o).past_id = subst (λ j. id < j) (sym (ap (λ (x : Worker). x.past_id) p.part)) r.3 in
         narrows_wider b.problem o.pass.view (get_or ms k o).pass.view (get_or (s ∷ ss) k o).pass.view n.pass.view id p.heard (heard k o (omega arith)) (done.swept id from past)
+
+    -- a state that follows has an id in the pass that read it, and so in worker 0's, or that pass has found the table full
+    each_placed : HaveStayed b (s ∷ ss) (n ∷ ns) → (id : ℕ) → id < d.swept → (from : State) → IsTrue (has_state o.pass.view id from)
+        → (t : State) → Contains (successors (ground_process b.problem) from) t → ((own : ℕ) × HasOwn n.pass.view t own) ⊎ OneWasFull (o ∷ os) t (n ∷ ns)
+    each_placed behind id below from had t follows =
+        let r = share_with d.swept d.workers id division.some below in let k : ℕ = r.0 in
+        let long = a.long in let long' = length_all_zip (HasTakenPart b e) ms (s ∷ ss) z in
+        let long'' = length_all_zip (λ (x y : Worker). Stays b x.pass y.pass) (s ∷ ss) (n ∷ ns) behind in
+        let inside : k < length (o ∷ os) = omega (arith, r.1) in
+        let old = get_or (o ∷ os) k o in let mid = get_or ms k o in let done = get_or (s ∷ ss) k o in let new = get_or (n ∷ ns) k o in
+        let p = a.each k o inside in
+        let part = AllZip-get_or (HasTakenPart b e) ms (s ∷ ss) k o o z (omega arith) in
+        let later = AllZip-get_or (λ (x y : Worker). Stays b x.pass y.pass) (s ∷ ss) (n ∷ ns) k o o behind (omega arith) in
+        let heard_it = heard k o (omega arith) in
+        let first_id : mid.first_id ≤ id = subst (λ j. j ≤ id) (sym (ap (λ (x : Worker). x.first_id) p.part)) r.2 in
+        let past_id : id < mid.past_id = subst (λ j. id < j) (sym (ap (λ (x : Worker). x.past_id) p.part)) r.3 in
+        let placed : PlacesNext b.problem mid.pass.view done.pass.view id = part.placed id first_id past_id in
+        let is : IsPlacedOrFull mid.pass.view done.pass.view t = placed from (has_state_more o.pass.view mid.pass.view p.heard id from had) t follows in
+        ⊎_elim
+        (λ own. inl (own.0, record { known = heard_it.known own.0 own.1.known; state = has_state_more done.pass.view n.pass.view heard_it own.0 t own.1.state }))
+        (λ full. inr (record {
+          place = k;
+          old = old;
+          new = new;
+          was = slice_get-get_or (o ∷ os) k o inside;
+          is = slice_get-get_or (n ∷ ns) k o (omega arith);
+          full = full_between old.pass.view mid.pass.view done.pass.view new.pass.view t p.stays.noted p.stays.looks full later.noted later.looks;
+        }))
+        is
 
   pub round_is_done : (os ms ss ns : List Worker) → IsRound b d e os ms ss ns → RoundDone b d e number os ns
   round_is_done [] ms ss ns r = absurd (let s = r.crew.some in omega arith)
@@ -276,4 +313,5 @@ module _ (b : Board) (d : Division) (e : Effort) (number : ℕ) (first : d.first
         trials = first_trials e number b s n ss ns r.met.0 r.met.1 r.met.2
             (parts_have_trials b d e number first items o.pass.view (o ∷ os) (m ∷ ms) (s ∷ ss) r.count r.prepared r.parts);
         swept = each_swept o n s os (m ∷ ms) ss ns r.division r.count r.prepared r.parts r.met.3;
+        placed = each_placed o n s os (m ∷ ms) ss ns r.division r.count r.prepared r.parts r.met.3 (first_stays b e.depth s n ss ns each r.met.0 r.met.2);
       }

@@ -13,20 +13,29 @@
 --     IsFirstPass ws k           k is the pass of worker 0
 --     HaveStayed b os ns         each worker has noted all that it had noted, and has the same rights
 --     HaveTrials b e number ws   each worker that has trials in the round of this number shows them
+--     OneWasFull os t ns         a look of a worker for the state t has found the table full meanwhile
+--     ArePlacedOrFull g swept os ns
+--                                each state that follows one which worker 0 had with an id below `swept` is one that it then has with an
+--                                id, or a look of a worker for it has found the table full meanwhile
 --     HasReadMeans b v w m       the means are between what v and w have seen, over a problem within its limits
 --     FirstReads b os ns m       worker 0 has read the means of the starts' bounds; nothing else is changed
-use Rattle.std.specs.Prelude.{◌≡◌, ℕ, ◌+◌, ◌*◌, ◌<◌, ◌≤◌, Some, List, [], ◌∷◌, length, All}
+use Rattle.std.specs.Prelude.{◌≡◌, ◌⊎◌, ℕ, ◌+◌, ◌*◌, ◌<◌, ◌≤◌, Some, List, [], ◌∷◌, length, All}
+use Rattle.std.specs.Prelude.{IsTrue, Contains}
 use Rattle.std.specs.List.{slice_get, AllZip}
 use Rattle.std.specs.Arc.{arc_value}
+use Rattle.decision_process.specs.Levels.{successors}
 use Rattle.ground_model.specs.Packed.{State}
 use Rattle.ground_model.specs.Ground.{Ground}
 use Rattle.ground_model.specs.Invariant.{IsGroundProblem}
 use Rattle.ground_model.specs.Steps.{ground_process, ground_starts}
 use Rattle.word_table.specs.declared.view.View.{View}
 use Rattle.word_table.specs.view.Steps.{without_rights}
+use Rattle.word_table.specs.view.Views.{has_state}
 use Rattle.word_table.specs.Seen.{Board, Knowledge, knowledge, with_rights}
+use Rattle.state_interner.specs.Interned.{HasOwn}
 use Rattle.brtdp_trial.specs.Paths.{PathView, new_path}
 use Rattle.kept_transitions.specs.Rows.{Transitions}
+use Rattle.bellman_backup.specs.Readings.{WasFull}
 use Rattle.bellman_backup.specs.Scratches.{ScratchView, new_scratch, with_witness}
 use Rattle.trial_workers.specs.declared.explorer.explored.TheConstants.{MOST_SWEPT}
 use Rattle.trial_workers.specs.explorer.Explored.{AreLevels}
@@ -117,6 +126,22 @@ HasTrials b e number workers i w = let first = trial_at e number workers i in
 abbrev pub HaveTrials : Board → Effort → ℕ → List Worker → Type 0
 HaveTrials b e number ws = (i : ℕ) (w : Worker) → slice_get ws i ≡ Some w
     → HasTrials b e number (length ws) i w
+
+pub record OneWasFull (os : List Worker) (t : State) (ns : List Worker) : Type 0 where
+  pub place : ℕ
+  pub old : Worker
+  pub new : Worker
+  pub was : slice_get os place ≡ Some old
+  pub is : slice_get ns place ≡ Some new
+  pub full : WasFull old.pass.view t new.pass.view
+
+abbrev pub ArePlacedOrFull : Ground → ℕ → List Worker → List Worker → Type 0
+ArePlacedOrFull g swept [] news = ⊥
+ArePlacedOrFull g swept (o ∷ os) [] = ⊥
+ArePlacedOrFull g swept (o ∷ os) (n ∷ ns) =
+    (id : ℕ) → id < swept → (s : State) → IsTrue (has_state o.pass.view id s)
+    → (t : State) → Contains (successors (ground_process g) s) t
+    → ((own : ℕ) × HasOwn n.pass.view t own) ⊎ OneWasFull (o ∷ os) t (n ∷ ns)
 
 pub record HasReadMeans (b : Board) (v w : View) (m : Means) : Type 0 where
   pub problem : IsGroundProblem b.problem

@@ -1,8 +1,12 @@
 -- What a worker does in its part of a round.
---     Stays b k l                the same pass later: it has noted all that it had noted, and has the same rights
+--     Stays b k l                the same pass later: it has noted all that it had noted, has made its looks and maybe more, and has the
+--                                same rights
 --     HasListed states v         the view has each state of the list, with its place as its id
 --     HasSwept g first past v w  for each id from first up to below past, w has seen at least the backup, from what v had seen, of each
 --                                state that v has the id with
+--     HasPlacedNext g first past v w
+--                                for each such id and state, w has each state that follows with an id, or a look for it has found the
+--                                table full since v
 --     IsRun r                    the first trial of a run is not behind its last
 --     HasTurnsKnown v p          the view knows the ids of the path's turns
 --     IsFit b depth w            a pass over these words, and a path for trials of so many turns
@@ -21,11 +25,12 @@ use Rattle.word_table.specs.declared.view.View.{View}
 use Rattle.word_table.specs.view.Views.{knows, has_state}
 use Rattle.word_table.specs.view.Laws.{HasMore}
 use Rattle.word_table.specs.Seen.{Board, Knowledge, IsOf}
+use Rattle.state_interner.specs.Interned.{AddsLooks}
 use Rattle.brtdp_trial.specs.declared.run.Run.{Run}
 use Rattle.brtdp_trial.specs.declared.turn.Turn.{Turn}
 use Rattle.brtdp_trial.specs.Paths.{PathView}
 use Rattle.bellman_backup.specs.Scratches.{ScratchView, IsScratchOf}
-use Rattle.bellman_backup.specs.Backups.{Narrows}
+use Rattle.bellman_backup.specs.Backups.{Narrows, PlacesNext}
 use Rattle.trial_workers.specs.declared.effort.Effort.{Effort}
 use Rattle.trial_workers.specs.declared.worker.Worker.{Worker}
 use Rattle.trial_workers.specs.Trials.{IsSeededTrial}
@@ -33,6 +38,7 @@ use Rattle.trial_workers.specs.Trials.{IsSeededTrial}
 pub record Stays (b : Board) (k l : Knowledge) : Type 0 where
   pub here : IsOf b l
   pub noted : HasMore k.view l.view
+  pub looks : AddsLooks k.view l.view
   pub rights : l.view.rights ≡ k.view.rights
 
 abbrev pub HasListed : List State → View → Type 0
@@ -41,6 +47,9 @@ HasListed states v = (id : ℕ) (s : State) → slice_get states id ≡ Some s
 
 abbrev pub HasSwept : Ground → ℕ → ℕ → View → View → Type 0
 HasSwept g first past v w = (id : ℕ) → first ≤ id → id < past → Narrows g v w id
+
+abbrev pub HasPlacedNext : Ground → ℕ → ℕ → View → View → Type 0
+HasPlacedNext g first past v w = (id : ℕ) → first ≤ id → id < past → PlacesNext g v w id
 
 abbrev pub IsRun : Run → Type 0
 IsRun r = r.first ≤ r.last
@@ -92,3 +101,4 @@ pub record HasTakenPart (b : Board) (e : Effort) (v w : Worker) : Type 0 where
   pub worker : IsWorkerOf b e.depth w
   pub tried : HasTried b e v w
   pub swept : HasSwept b.problem v.first_id v.past_id v.pass.view w.pass.view
+  pub placed : HasPlacedNext b.problem v.first_id v.past_id v.pass.view w.pass.view

@@ -1,7 +1,7 @@
 //! Rounds.
 
 ghost use Rattle.std.specs.Prelude.{◌≤◌, ◌+◌, ℕ};
-ghost use Rattle.trial_workers.specs.Crews.{IsCrewOf, IsNear, HaveStayed, HaveTrials};
+ghost use Rattle.trial_workers.specs.Crews.{IsCrewOf, IsNear, HaveStayed, HaveTrials, ArePlacedOrFull};
 ghost use Rattle.trial_workers.specs.Effort.{HaveRounds};
 
 use crate::crew::Crew;
@@ -31,6 +31,7 @@ fn round_of<R: Threads + Sync, G: Gate>(
     ensures crew { IsCrewOf words.now effort.now.depth workers.new }
     ensures stayed { HaveStayed words.now workers.old workers.new }
     ensures trials { HaveTrials words.now effort.now number workers.new }
+    ensures placed { ArePlacedOrFull words.now.problem extent.now.swept workers.old workers.new }
     ensures rounds { (r : ℕ) → HaveRounds words.now.problem extent.now.depth r workers.old
         → HaveRounds words.now.problem extent.now.depth (r + 1) workers.new }
 {
@@ -63,6 +64,7 @@ pub fn round<R: Threads + Sync, G: Gate>(
     ensures crew { IsCrewOf words.now effort.now.depth crew.new }
     ensures stayed { HaveStayed words.now crew.old crew.new }
     ensures trials { HaveTrials words.now effort.now number crew.new }
+    ensures placed { ArePlacedOrFull words.now.problem extent.now.swept crew.old crew.new }
     ensures rounds { (r : ℕ) → HaveRounds words.now.problem extent.now.depth r crew.old
         → HaveRounds words.now.problem extent.now.depth (r + 1) crew.new }
 {

@@ -4,12 +4,13 @@ ghost use Rattle.std.specs.Prelude.{◌<◌, ℕ};
 ghost use Rattle.word_table.specs.view.Views.{knows};
 ghost use Rattle.word_table.specs.Seen.{IsOf};
 ghost use Rattle.bellman_backup.specs.Scratches.{IsScratchOf};
-ghost use Rattle.trial_workers.specs.Workers.{Stays, HasSwept};
+ghost use Rattle.trial_workers.specs.Workers.{Stays, HasSwept, HasPlacedNext};
 
 use bellman_backup::{Scratch, narrow};
 use word_table::{Pass, Words};
 
-/// Backs up the ids from `first` up to below `past`, in falling order.
+/// Backs up the ids from `first` up to below `past`, in falling order. Each state that follows has an id then, unless
+/// a look for it has found the table full.
 pub(crate) fn sweep(
     words: &Words<'_>,
     pass: &mut Pass,
@@ -24,6 +25,7 @@ pub(crate) fn sweep(
     ensures stays { Stays words.now pass.old pass.new }
     ensures scratch { IsScratchOf words.now scratch.new }
     ensures swept { HasSwept words.now.problem first past pass.old.view pass.new.view }
+    ensures placed { HasPlacedNext words.now.problem first past pass.old.view pass.new.view }
 {
     let mut id = past;
     while id > first {

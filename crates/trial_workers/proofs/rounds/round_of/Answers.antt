@@ -39,6 +39,14 @@ returns-clause-trials g c =
     (round_done b d e c.args.number near.states x os c.prepare.new.workers c.take_parts.new.workers c.meet_all.new.workers near.listed refl first refl
     (is_division d e.depth b c.args.number os refl first c.ranges.number.fits (search rules) c.requires.crew) refl c.requires.crew near.has c.prepare.ensures c.take_parts.ensures c.meet_all.ensures).trials
 
+pub returns-clause-placed : goal.returns-clause-placed
+returns-clause-placed g c =
+    let b = c.args.words.now in let e = c.args.effort.now in let os = c.args.workers.now in let x = c.args.extent.now in let near = c.requires.near in
+    let first : c.from.result * c.from-2.result ≡ c.args.number * e.trials = (λ t. c.from.ensures t * c.from-2.ensures t) in
+    let d : Division = record { workers = length os; swept = x.swept; trials = e.trials; first_trial = c.from.result * c.from-2.result } in
+    (round_done b d e c.args.number near.states x os c.prepare.new.workers c.take_parts.new.workers c.meet_all.new.workers near.listed refl first refl
+    (is_division d e.depth b c.args.number os refl first c.ranges.number.fits (search rules) c.requires.crew) refl c.requires.crew near.has c.prepare.ensures c.take_parts.ensures c.meet_all.ensures).placed
+
 pub returns-clause-rounds : goal.returns-clause-rounds
 returns-clause-rounds g c =
     let b = c.args.words.now in let e = c.args.effort.now in let os = c.args.workers.now in let x = c.args.extent.now in let near = c.requires.near in

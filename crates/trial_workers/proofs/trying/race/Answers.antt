@@ -22,6 +22,7 @@ returns-clause-trial c = record {
   noted = has_all c.trial.new.bounds.pass.view;
   end = c.trial.result.end;
   is = c.trial.ensures.trial;
+  unplaced = c.trial.ensures.unplaced;
 }
 
 pub returns-clause-scratch : goal.returns-clause-scratch
