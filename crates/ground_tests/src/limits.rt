@@ -60,7 +60,7 @@ fn text_of(
 ) -> Result<String, AllocError> {
     let mut text = format!(in alloc;
         "(define (domain d) (:types a b)
-          (:predicates (x0) (x1) (x2) (x3) (x4) (x5) (x6) (x7) (x8) (q ?x) (r ?x))
+          (:predicates (x0) (x1) (x2) (x3) (x4) (x5) (x6) (x7) (x8) (q ?x) (r ?x) (s ?x ?y ?z))
           (:action act {action}))
         (define (problem p) (:domain d) (:objects"
     )?;
@@ -157,7 +157,7 @@ fn reached(rt: HostRuntime) -> Result<(), Fail> {
 fn passed(rt: HostRuntime) -> Result<(), Fail> {
     let larger_goal = "(:goal (and (forall (?x) ()) (forall (?x ?y - a ?z - b) ()) ()))";
     let each_atom = ":effect (forall (?x) (and (q ?x) (r ?x)))";
-    let rows: [Row<'_>; 17] = [
+    let rows: [Row<'_>; 20] = [
         // Objects come before instances, also where steps may cost nothing.
         (
             (1_001, 0),
@@ -225,6 +225,26 @@ fn passed(rt: HostRuntime) -> Result<(), Fail> {
             ":effect (and DEAR (forall (?x) (when (x1) DEAR)))",
             GOAL,
             Err(OutcomeCost),
+        ),
+        // Of 27,000,000 literals, which are not listed, the ground size is above its limit with the 223rd
+        // instance, or earlier where each has draws; and actions come before it where effects are smaller.
+        (
+            (300, 0),
+            ":parameters (?x) :effect (forall (?u ?v) (s ?x ?u ?v))",
+            GOAL,
+            Err(GroundSize),
+        ),
+        (
+            (300, 0),
+            ":parameters (?x) :effect (and SEVEN (decrease (reward) 1) (forall (?u ?v) (s ?x ?u ?v)))",
+            GOAL,
+            Err(GroundSize),
+        ),
+        (
+            (300, 0),
+            ":parameters (?x ?y) :effect (forall (?u) (s ?x ?y ?u))",
+            GOAL,
+            Err(Actions),
         ),
         // Actions come before the goal's size, and this before atoms.
         (

@@ -4,5 +4,4 @@ pub mod Totals
 pub mod Ending
 pub mod Standing
 pub mod Counting
-pub mod First
 pub mod lemmas

@@ -5,3 +5,4 @@ pub mod texts
 pub mod changing_atoms
 pub mod starts
 pub mod actions
+pub mod outset

@@ -11,3 +11,4 @@ pub mod texts
 pub mod changing_atoms
 pub mod starts
 pub mod actions
+pub mod outset

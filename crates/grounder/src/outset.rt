@@ -1,30 +1,53 @@
-//! An effect that is too large by itself, which is refused before any effect is expanded.
+//! Kept instances that exceed a limit whatever their atoms are: they are refused before any literal is
+//! listed and any effect is expanded.
 
-ghost use Rattle.std.specs.Prelude.{◌≡◌, false, Err};
+mod draws;
+mod walked;
+mod walking;
+
+ghost use Rattle.std.specs.Prelude.{◌≡◌, Err, IfErr};
 ghost use Rattle.std.specs.List.{AllZip};
 ghost use Rattle.ppddl_model.specs.Changing.{kept_instances};
-ghost use Rattle.ppddl_model.specs.Steps.{Charges};
-ghost use Rattle.ground_meaning.specs.declared.refusals.limits.LimitCode.TheVariants.{GroundSize};
+ghost use Rattle.ppddl_model.specs.Steps.{Charges, base_cost};
+ghost use Rattle.ppddl_model.specs.WellFormed.{IsWellFormed};
 ghost use Rattle.ground_meaning.specs.refusals.Limits.{instances_within};
 ghost use Rattle.task_instances.specs.kept_rows.Kept.{AreKept};
 
-use ground_meaning::MOST_GROUND_SIZE;
-use ground_terms::effect_size;
+use crate::outset::draws::greatest_value;
+use crate::outset::walked::Walked;
+use crate::outset::walking::walk_action;
+use ground_meaning::LimitCode;
 use task_instances::{Rows, TaskFacts};
 
-/// Whether the effect of the first kept instance, counted once, is within the limit on the ground size,
-/// where the tried preconditions have the size `tested`.
-pub(crate) fn first_fits(facts: &TaskFacts<'_>, kept: &[Rows], tested: u64) -> bool
-    requires { AllZip (AreKept facts.now) facts.now.domain.actions kept.now }
-    ensures { result ≡ false → (charges : Charges)
-        → instances_within facts.now charges 0 tested (kept_instances facts.now) ≡ Err GroundSize }
+/// The first limit that the kept instances exceed, where each step costs this much at least and the tried
+/// preconditions have the size `tested`. They are counted in order, each by its effect once, as long as their
+/// effects are sure to be within the limits on choices and costs. No limit is answered where another limit might
+/// come first, by the atoms that the instances have.
+pub(crate) fn sizes_within(
+    facts: &TaskFacts<'_>,
+    kept: &[Rows],
+    base: u64,
+    tested: u64,
+) -> Result<(), LimitCode>
+    requires well_formed { IsWellFormed facts.now }
+    requires kept { AllZip (AreKept facts.now) facts.now.domain.actions kept.now }
+    ensures { IfErr result (λ code. (charges : Charges) → base_cost facts.now charges ≡ base
+        → instances_within facts.now charges 0 tested (kept_instances facts.now) ≡ Err code) }
 {
-    let actions = facts.task().domain.actions.as_slice();
+    let task = facts.task();
+    let actions = task.domain.actions.as_slice();
+    let dearest = greatest_value(task.problem.values.as_slice());
+    let mut walked = Walked {
+        instances: 0,
+        size: tested,
+        is_exact: true,
+    };
     for (place, action) in actions.iter().enumerate() {
-        if kept[place].len() > 0 {
-            let effect = effect_size(facts.table(), &action.effect);
-            return tested.saturating_add(effect) <= MOST_GROUND_SIZE;
+        match walk_action(facts, base, dearest, action, &kept[place], walked) {
+            Ok(Some(next)) => walked = next,
+            Ok(None) => return Ok(()),
+            Err(code) => return Err(code),
         }
     }
-    true
+    Ok(())
 }

@@ -18,7 +18,7 @@ use crate::changing_atoms::{changing_texts, kept_of_actions};
 use crate::depth::is_deep;
 use crate::limits::{early_limits, limit_laws};
 use crate::names::{Names, names_of};
-use crate::outset::first_fits;
+use crate::outset::sizes_within;
 use crate::sizing::sized_actions;
 use crate::starts::{InitialStates, ground_starts};
 use ground_meaning::{GroundRefusal, LimitCode};
@@ -122,8 +122,8 @@ fn kept_parts(
     ensures exact { (charges : Charges) → base_cost facts.now charges ≡ base
         → Limited (ArePartsOf facts.now charges) result (later_limits facts.now charges tested) }
 {
-    if !first_fits(facts, kept, tested) {
-        return Err(GroundRefusal::Limit(LimitCode::GroundSize));
+    if let Err(code) = sizes_within(facts, kept, base, tested) {
+        return Err(GroundRefusal::Limit(code));
     }
     let atoms = changing_texts(alloc, facts, kept)?;
     let names = names_of(alloc, facts, atoms.as_slice())?;
