@@ -1,4 +1,5 @@
 pub mod Counted
 pub mod Typed
+pub mod Flags
 pub mod Valued
 pub mod Laws

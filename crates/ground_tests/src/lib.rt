@@ -9,6 +9,8 @@ mod grounded;
 #[cfg(test)]
 mod kept;
 #[cfg(test)]
+mod large;
+#[cfg(test)]
 mod limits;
 #[cfg(test)]
 mod refusals;

@@ -1,17 +1,15 @@
 -- How many objects a task has, counted by their names, and what is refused where they are too many.
-use Rattle.std.proofs.Common.{◌≡◌, ℕ, zero, suc, ◌+◌, ◌==◌, Bool, true, false, None, Some, List, [], ◌∷◌, ◌++◌, map, length, append_assoc, append-nil, if◌then◌else◌, refl, sym, ap, ◌∙◌, arith, length-append}
+use Rattle.std.proofs.Common.{◌≡◌, ℕ, ◌+◌, ◌||◌, Bool, true, false, true≢false, None, Some, List, [], ◌∷◌, ◌++◌, map, length, append_assoc, append-nil, if◌then◌else◌, refl, sym, ap, ◌∙◌, length-append}
 use Rattle.std.specs.Prelude.{nat_le, cond, Result, Err}
 use Rattle.std.specs.List.{find, list_any}
 use Rattle.plain_list.specs.Results.{◌>>=◌}
-use Rattle.ppddl_model.specs.declared.tree.Action.{Action}
 use Rattle.ppddl_model.specs.declared.tree.ObjectDecl.{ObjectDecl}
 use Rattle.ppddl_model.specs.declared.tree.Task.{Task}
 use Rattle.ppddl_model.specs.State.{Name, same_name}
-use Rattle.ppddl_model.specs.Costs.{unconditional_cost}
 use Rattle.ppddl_model.specs.Objects.{once}
 use Rattle.ppddl_model.specs.Steps.{Terms, charges_of, base_cost, world}
 use Rattle.type_table.specs.Numbered.{with_name}
-use Rattle.type_table.proofs.Lists.{map_length}
+use Rattle.type_table.proofs.Lists.{by_test, map_length}
 use Rattle.type_table.proofs.Once.{once-push, names-with_object}
 use Rattle.ground_meaning.specs.declared.refusals.limits.TheConstants.{MOST_OBJECTS}
 use Rattle.ground_meaning.specs.declared.refusals.limits.LimitCode.{LimitCode}
@@ -48,25 +46,21 @@ counted_all task first all is more =
     ∙ names_of_once task.domain.constants task.problem.objects)
     ∙ sym (map_length object_name (world task).objects)
 
--- ---- where each step costs something
+-- ---- where no action may cost nothing
 
 stops : {A : Type 0} (b : Bool) (code : LimitCode) (next : Unit {0} → Result A LimitCode) → b ≡ false → (checked b code >>= next) ≡ Err code
 stops b code next is = ap (λ t. checked t code >>= next) is
 
-none_found : {X : Type 0} (p : X → Bool) (xs : List X) → ((x : X) → p x ≡ false) → find p xs ≡ None
-none_found p [] fails = refl
-none_found p (x ∷ xs) fails = ap (λ t. cond t (Some x) (find p xs)) (fails x) ∙ none_found p xs fails
+none_found : {X : Type 0} (p : X → Bool) (xs : List X) → list_any p xs ≡ false → find p xs ≡ None
+none_found p [] none = refl
+none_found p (x ∷ xs) none = by_test (p x)
+    (λ e. absurd (true≢false (sym (ap (λ t. t || list_any p xs) e) ∙ none)))
+    (λ e. ap (λ t. cond t (Some x) (find p xs)) e ∙ none_found p xs (sym (ap (λ t. t || list_any p xs) e) ∙ none))
 
-module _ (task : Task) (terms : Terms) (base : ℕ) (is : base ≡ base_cost task (step_charges terms.step_cost)) (some : base ≡ 0 → ⊥) where
-  costs : (a : Action) → is_free task base a ≡ false
-  costs a = dear (unconditional_cost (world task) a.effect) base some
-    where
-      dear : (cost base : ℕ) → (base ≡ 0 → ⊥) → (cost + base == 0) ≡ false
-      dear cost zero some = absurd (some refl)
-      dear cost (suc base) some = grind arith
-
+module _ (task : Task) (terms : Terms) (base : ℕ) (is : base ≡ base_cost task (step_charges terms.step_cost))
+    (none : list_any (is_free task base) task.domain.actions ≡ false) where
   none_free : free_action task terms ≡ None
-  none_free = sym (free_is task terms base is) ∙ none_found (is_free task base) task.domain.actions costs
+  none_free = sym (free_is task terms base is) ∙ none_found (is_free task base) task.domain.actions none
 
   pub no_penalty_first : charges_of terms task ≡ None → grounded task terms ≡ Err (NoPenalty task.problem.line)
   no_penalty_first none = no_penalty task terms none_free none

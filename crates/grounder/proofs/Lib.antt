@@ -4,4 +4,5 @@ pub mod Totals
 pub mod Ending
 pub mod Standing
 pub mod Counting
+pub mod Costing
 pub mod lemmas

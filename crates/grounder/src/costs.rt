@@ -5,5 +5,5 @@ mod free;
 mod penalty;
 
 pub(crate) use base::base_cost;
-pub(crate) use free::first_free;
+pub(crate) use free::{first_free, may_be_free};
 pub(crate) use penalty::penalty_of;

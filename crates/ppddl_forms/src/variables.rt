@@ -15,9 +15,8 @@ use crate::words::{read_name, read_variable};
 use indexmap::IndexSet;
 use ppddl_cursor::{Cursor, TokenKind};
 use ppddl_lex::keywords;
-use ppddl_model::{List, Param, Text, TextCode, TextRefusal};
+use ppddl_model::{List, Param, SharedList, Text, TextCode, TextRefusal};
 use std::alloc::{AllocError, Global};
-use std::slice;
 
 /// Reads the name of a type.
 #[tactic(auto, using(crate::proofs::Steps::form_steps), unfolding(crate::specs::Variables::type_name))]
@@ -43,7 +42,7 @@ fn read_type_names(
     cursor: &mut Cursor<'_>,
     names: &Names,
     first: Text,
-) -> Result<List<Text>, TextRefusal>
+) -> Result<SharedList<Text>, TextRefusal>
     ensures gives { ReadsRest (type_names names.now (first ∷ [])) cursor.old cursor.new result }
     ensures fewer { OnOk result (size cursor.new < size cursor.old) }
 {
@@ -53,7 +52,7 @@ fn read_type_names(
         kinds.push(kind)?;
     }
     cursor.close()?;
-    Ok(List::from_vec(kinds))
+    Ok(SharedList::from_vec(kinds)?)
 }
 
 /// Reads `( either NAME+ )`.
@@ -62,7 +61,7 @@ fn read_either(
     alloc: Global,
     cursor: &mut Cursor<'_>,
     names: &Names,
-) -> Result<List<Text>, TextRefusal>
+) -> Result<SharedList<Text>, TextRefusal>
     ensures gives { ReadsOne (either_type names.now) cursor.old cursor.new result }
     ensures fewer { OnOk result (size cursor.new < size cursor.old) }
 {
@@ -77,13 +76,13 @@ fn read_one_type(
     alloc: Global,
     cursor: &mut Cursor<'_>,
     names: &Names,
-) -> Result<List<Text>, TextRefusal>
+) -> Result<SharedList<Text>, TextRefusal>
     ensures gives { ReadsOne (one_type names.now) cursor.old cursor.new result }
     ensures fewer { OnOk result (size cursor.new < size cursor.old) }
 {
     let kind = read_type_name(alloc, cursor, names)?;
     let kinds = vec![in alloc; kind]?;
-    Ok(List::from_vec(kinds))
+    Ok(SharedList::from_vec(kinds)?)
 }
 
 /// Reads the types of variables.
@@ -92,7 +91,7 @@ fn read_types(
     alloc: Global,
     cursor: &mut Cursor<'_>,
     names: &Names,
-) -> Result<List<Text>, TextRefusal>
+) -> Result<SharedList<Text>, TextRefusal>
     ensures gives { ReadsOne (types_of names.now) cursor.old cursor.new result }
     ensures fewer { OnOk result (size cursor.new < size cursor.old) }
 {
@@ -102,23 +101,11 @@ fn read_types(
     read_one_type(alloc, cursor, names)
 }
 
-/// A copy of texts. It is refused for want of memory alone.
-fn copy_texts(alloc: Global, texts: &[Text]) -> Result<List<Text>, AllocError>
-    ensures { IfOk result (λ copy. copy ≡ texts.now) }
-{
-    let mut copies = Vec::with_capacity(alloc, texts.len())?;
-    for text in texts {
-        copies.push(Text::from_slice(alloc, text.as_slice())?)?;
-    }
-    Ok(List::from_vec(copies))
-}
-
-/// Gives these types to the variables that have none, where there are `count` in all.
+/// Gives these types to the variables that have none, where there are `count` in all. They share them.
 fn give_types(
-    alloc: Global,
-    kinds: &mut Vec<List<Text>>,
+    kinds: &mut Vec<SharedList<Text>>,
     count: usize,
-    given: &[Text],
+    given: &SharedList<Text>,
 ) -> Result<(), AllocError>
     requires { length kinds.old.items ≤ count }
     ensures given { OnOk result (kinds.new.items
@@ -126,19 +113,24 @@ fn give_types(
     ensures count { OnOk result (length kinds.new.items ≡ count) }
 {
     while kinds.len() < count {
-        kinds.push(copy_texts(alloc, given)?)?;
+        kinds.push(given.clone()?)?;
     }
     Ok(())
 }
 
 /// Gives the type `object` to the variables that have none, where there are `count` in all.
-fn give_object(alloc: Global, kinds: &mut Vec<List<Text>>, count: usize) -> Result<(), AllocError>
+fn give_object(
+    alloc: Global,
+    kinds: &mut Vec<SharedList<Text>>,
+    count: usize,
+) -> Result<(), AllocError>
     requires { length kinds.old.items ≤ count }
     ensures { OnOk result (kinds.new.items ≡ kinds.old.items
         ++ replicate (count - length kinds.old.items) (OBJECT.now ∷ [])) }
 {
     let object = Text::from_slice(alloc, OBJECT)?;
-    give_types(alloc, kinds, count, slice::from_ref(&object))
+    let given = SharedList::from_vec(vec![in alloc; object]?)?;
+    give_types(kinds, count, &given)
 }
 
 /// Reads `-` and types, and gives these to the variables that have none, where there are `count` in all.
@@ -148,7 +140,7 @@ fn read_typing(
     cursor: &mut Cursor<'_>,
     names: &Names,
     count: usize,
-    kinds: &mut Vec<List<Text>>,
+    kinds: &mut Vec<SharedList<Text>>,
 ) -> Result<(), TextRefusal>
     requires dash { is_word DASH.now cursor.old ≡ true }
     requires within { length kinds.old.items ≤ count }
@@ -162,7 +154,7 @@ fn read_typing(
     }
     cursor.expect_keyword(DASH)?;
     let given = read_types(alloc, cursor, names)?;
-    give_types(alloc, kinds, count, given.as_slice())?;
+    give_types(kinds, count, &given)?;
     Ok(())
 }
 
@@ -190,7 +182,7 @@ fn read_other_variable(
 fn with_types(
     alloc: Global,
     names: IndexSet<Text>,
-    kinds: Vec<List<Text>>,
+    kinds: Vec<SharedList<Text>>,
 ) -> Result<List<Param>, AllocError>
     ensures { IfOk result (λ params. params ≡ params_of names.keys kinds.items) }
 {
@@ -211,7 +203,7 @@ fn read_more_variables(
     cursor: &mut Cursor<'_>,
     names: &Names,
     seen: &mut IndexSet<Text>,
-    kinds: &mut Vec<List<Text>>,
+    kinds: &mut Vec<SharedList<Text>>,
 ) -> Result<(), TextRefusal>
     requires { length kinds.old.items ≤ length seen.old.keys }
     ensures gives { Gives (λ _. (params_of seen.new.keys kinds.new.items, cursor.new)) result
@@ -240,7 +232,7 @@ pub fn read_variables(
     ensures fewer { OnOk result (size cursor.new < size cursor.old) }
 {
     let mut seen: IndexSet<Text> = IndexSet::new(alloc);
-    let mut kinds: Vec<List<Text>> = Vec::new(alloc);
+    let mut kinds: Vec<SharedList<Text>> = Vec::new(alloc);
     match read_more_variables(alloc, cursor, names, &mut seen, &mut kinds) {
         Ok(()) => Ok(with_types(alloc, seen, kinds)?),
         Err(refusal) => {

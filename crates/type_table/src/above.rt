@@ -88,6 +88,17 @@ impl Above {
         }
     }
 
+    /// How many types an object of a type is of, `object` counted once or twice.
+    pub(crate) fn count_up(&self, kind: u32) -> u64
+        requires sound { IsSound self.now }
+        requires kind { kind < length (rows_of self.now) }
+    {
+        match self {
+            Above::Single(forest) => forest.depth(kind) as u64 + 2,
+            Above::Several(rows) => rows.as_slice()[kind as usize].as_slice().len() as u64,
+        }
+    }
+
     /// Puts an object behind those of `object`, of a type and of each type above it.
     pub(crate) fn add_member(
         &self,

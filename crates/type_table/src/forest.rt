@@ -7,7 +7,7 @@ ghost use Rattle.indexmap.specs.IndexSet.{insert_key};
 ghost use Rattle.type_table.specs.declared.refusal.TypeRefusal.TheVariants.{Cycle};
 ghost use Rattle.type_table.specs.Forest.{AreParentsWithin, HasLoop, IsPathTo, ArePlaced, IsRanked, IsOnTheWay};
 ghost use Rattle.type_table.specs.Forest.{AreUnplaced, IsEnd, IsMorePlaced, IsForest};
-ghost use Rattle.type_table.specs.Forest.{parent_at, path, upward_path};
+ghost use Rattle.type_table.specs.Forest.{parent_at, depth_at, path, upward_path};
 ghost use Rattle.type_table.specs.Rows.{AddsToRow};
 
 use crate::refusal::TypeRefusal;
@@ -219,6 +219,15 @@ impl Forest {
             };
         }
         at == other
+    }
+
+    /// How many types stand above a type.
+    pub(crate) fn depth(&self, kind: u32) -> u32
+        requires forest { IsForest self.now.parents self.now.ranks }
+        requires kind { kind < length self.now.parents }
+        ensures { result ≡ depth_at self.now.ranks kind }
+    {
+        self.ranks.as_slice()[kind as usize].depth
     }
 
     /// Puts an object behind those of a type and of each type above it.

@@ -87,6 +87,13 @@ impl Hierarchy {
         self.above.is_under(kind, other)
     }
 
+    /// How many types an object of a type is of, `object` counted once or twice.
+    pub(crate) fn count_up(&self, kind: u32) -> u64
+        requires { kind < length (type_names self.now) }
+    {
+        self.above.count_up(kind)
+    }
+
     /// Puts an object behind those of each type of which it is.
     pub(crate) fn add_member(
         &self,

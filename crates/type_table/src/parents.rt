@@ -12,7 +12,7 @@ use plain_list::List;
 use std::alloc::{AllocError, Global};
 
 /// The parent of a type, itself where it has none; None where there are several. It is refused
-/// where a type is its own parent, and where `object` has another one.
+/// where a type is its own parent, and where the first one of `object` is another type.
 fn only_parent(row: &[u32], kind: u32) -> Result<Option<u32>, TypeRefusal>
     ensures only { IfOk result (λ found. IfSome found (IsOnly row.now kind)) }
     ensures cycle { IsErrOf result Cycle → IsOwnParent row.now kind }
@@ -25,7 +25,12 @@ fn only_parent(row: &[u32], kind: u32) -> Result<Option<u32>, TypeRefusal>
             }
             Ok(Some(*parent))
         }
-        _ => Ok(None),
+        [parent, ..] => {
+            if kind == 0 && *parent != 0 {
+                return Err(TypeRefusal::Cycle);
+            }
+            Ok(None)
+        }
     }
 }
 

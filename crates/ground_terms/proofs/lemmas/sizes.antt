@@ -1,5 +1,6 @@
 pub mod Stopping
 pub mod OfTypes
+pub mod Flagging
 pub mod ManyWays
 pub mod SizeSteps
 pub mod DenSteps
