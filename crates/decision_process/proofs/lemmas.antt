@@ -1,2 +1,3 @@
 pub mod homomorphism
 pub mod sweeps
+pub mod under
