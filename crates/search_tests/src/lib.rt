@@ -10,6 +10,8 @@ mod numbers;
 #[cfg(test)]
 mod problems;
 #[cfg(test)]
+mod seeds;
+#[cfg(test)]
 mod table;
 #[cfg(test)]
 mod trials;

@@ -33,6 +33,14 @@ pub(crate) const SLOW_COIN: &str = "(define (domain coin)
   (:domain coin) (:init) (:goal (done)) (:goal-reward 10000))
 ";
 
+/// A coin whose one flip costs more than giving up, which costs a half.
+pub(crate) const DEAR_COIN: &str = "(define (domain coin)
+  (:predicates (done))
+  (:action flip :effect (and (decrease (reward) 1) (probabilistic 1/2 (done)))))
+(define (problem toss)
+  (:domain coin) (:init) (:goal (done)) (:goal-reward 0.5))
+";
+
 /// Fourteen switches, which are all to be on: each set of them is a state.
 pub(crate) const SWITCHES: &str = "(define (domain switches)
   (:predicates (on ?x) (switch ?x))

@@ -1,0 +1,3 @@
+mod LeastCosts
+mod Order
+mod Sums

@@ -1,0 +1,4 @@
+pub mod Rules
+pub mod Seeded
+pub mod Costs
+pub mod Means
