@@ -1,3 +1,3 @@
-mod LeastCosts
+pub mod LeastCosts
 mod Order
 mod Sums

@@ -1,6 +1,6 @@
 //! The rule that each step costs something.
 
-ghost use Rattle.std.specs.Prelude.{◌≡◌, length, map, min};
+ghost use Rattle.std.specs.Prelude.{◌≡◌, length, min};
 ghost use Rattle.decision_process.specs.Process.{min_with};
 ghost use Rattle.decision_process.specs.under.Under.{IsUnder};
 ghost use Rattle.ground_model.specs.Steps.{ground_process};

@@ -12,7 +12,7 @@ use Rattle.plan_request.specs.declared.sizes.Sizes.{Sizes}
 use Rattle.plan_request.specs.Asked.{Sources, Solving, Asked, to_solve, to_check, to_serve, to_ground, to_bench}
 use Rattle.plan_request.specs.Laws.{IsInRange}
 use Rattle.plan_search.specs.declared.answer.Answer.{Answer}
-use Rattle.plan_search.specs.Answers.{IsAnswerOf}
+use Rattle.plan_search.specs.Under.{IsAnswerWith}
 use Rattle.plan_search.specs.Serving.{stop_of, IsServiceOf}
 use Rattle.policy_server.specs.declared.serve_end.ServeEnd.{ServeEnd}
 use Rattle.policy_server.specs.Replies.{Reply}
@@ -93,7 +93,7 @@ module _ {S I : Type 0} (held : S → List ℕ → Told) (reads writes : S → �
 
   solve_answers : (s : Solving) (r : Result Ground Stop) (e : Ending) → ((stop : Stop) → r ≡ Err stop → IsOfTexts stop)
       → (Rose (writes old) (writes new) → ⊥) → AnswersSolve held writes old new s r e → IsAnswerTo (to_solve s) (ending_status e)
-  solve_answers s (Ok g) e so no_rise answers = search_answers s g (IsAnswerOf g s.effort s.sizes) e no_rise answers
+  solve_answers s (Ok g) e so no_rise answers = search_answers s g (IsAnswerWith g s.effort s.sizes s.lower) e no_rise answers
   solve_answers s (Err stop) e so no_rise says =
       texts_stop (answers_to (to_solve s)) (2, omega arith, refl) (3, omega arith, refl) (4, omega arith, refl) stops s.sources stop e
       (so stop refl) says

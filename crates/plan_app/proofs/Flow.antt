@@ -9,6 +9,7 @@ use Rattle.ground_model.specs.Ground.{Ground}
 use Rattle.plan_request.specs.Asked.{Sources, Solving, Asked, to_solve, to_check, to_serve, to_ground, to_bench}
 use Rattle.plan_search.specs.declared.answer.Answer.{Answer}
 use Rattle.plan_search.specs.Answers.{IsAnswerOf, IsTooLong}
+use Rattle.plan_search.specs.Under.{with_report, IsAnswerWith}
 use Rattle.plan_search.specs.Serving.{stop_of, IsServiceOf, AnswersBehind, EndsServing}
 use Rattle.policy_server.specs.declared.served.Served.{Served}
 use Rattle.policy_server.specs.Replies.{Reply}
@@ -110,14 +111,24 @@ module _ {S : Type 0} (held : S → List ℕ → Told) (reads writes : S → ℕ
             → held new s.certificate ≡ written (held old s.certificate) answer.certificate
         written_since is = is ∙ ap (λ h. written (h s.certificate) answer.certificate) same
 
-        pub reports : (report : Report) → report ≡ said_by answer.converged answer.report
-            → held new s.certificate ≡ written (held mid s.certificate) answer.certificate
-            → MayEndRequest held reads writes old new (to_solve s) (Ok report)
-        reports report is holds = (
-          Ok g,
-          given,
-          inl (record { answer = answer; is_answer = is_answer; holds = written_since holds; says = ap Ok (sym is) }),
-        )
+        -- with what is told from below behind the report
+        module _ (text : List ℕ) (is : IsAnswerWith g s.effort s.sizes s.lower (with_report answer text)) where
+          reports : (report : Report) → report ≡ said_by answer.converged text
+              → held new s.certificate ≡ written (held mid s.certificate) answer.certificate
+              → MayEndRequest held reads writes old new (to_solve s) (Ok report)
+          reports report said holds = (
+            Ok g,
+            given,
+            inl (record { answer = with_report answer text; is_answer = is; holds = written_since holds; says = ap Ok (sym said) }),
+          )
+
+          pub wrote : (r : Result Report Stop) → writes mid ≡ writes old
+              → IfOk r (λ report. report ≡ said_by answer.converged text)
+              → IfOk r (λ _. held new s.certificate ≡ written (held mid s.certificate) answer.certificate)
+              → IfErr r (λ stop. (stop ≡ NoMemory) ⊎ ((stop ≡ WriteFailed) × Rose (writes mid) (writes new)))
+              → MayEndRequest held reads writes old new (to_solve s) r
+          wrote (Ok report) steady said holds stops = reports report said holds
+          wrote (Err e) steady said holds stops = write_stops steady e stops
 
         -- the same behind a server
         pub wrote_behind : (Is : Answer → Type 0) → Is answer → (r : Result Report Stop) → writes mid ≡ writes old
@@ -131,14 +142,6 @@ module _ {S : Type 0} (held : S → List ℕ → Told) (reads writes : S → ℕ
           | inl none ↦ inl (ap Err none)
           | inr failed ↦ inr (inr (inr (ap Err (sym failed.0), subst (λ n. Rose n (writes new)) steady failed.1)))
         ]
-
-        pub wrote : (r : Result Report Stop) → writes mid ≡ writes old
-            → IfOk r (λ report. report ≡ said_by answer.converged answer.report)
-            → IfOk r (λ _. held new s.certificate ≡ written (held mid s.certificate) answer.certificate)
-            → IfErr r (λ stop. (stop ≡ NoMemory) ⊎ ((stop ≡ WriteFailed) × Rose (writes mid) (writes new)))
-            → MayEndRequest held reads writes old new (to_solve s) r
-        wrote (Ok report) steady said holds stops = reports report said holds
-        wrote (Err e) steady said holds stops = write_stops steady e stops
 
         abbrev Under : Type 0
         Under = (held new s.certificate ≡ held mid s.certificate)

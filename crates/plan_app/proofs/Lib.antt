@@ -8,5 +8,6 @@ pub mod Answering
 pub mod Statuses
 pub mod States
 pub mod Replies
+pub mod Below
 pub mod Solved
 pub mod lemmas

@@ -1,9 +1,9 @@
 -- What a search found that was reported, of the ground problem and of the task.
-use Rattle.std.proofs.Common.{◌≡◌, ◌≢◌, ℕ, ◌+◌, ◌-◌, ◌*◌, ◌^◌, ◌<◌, ◌≤◌, inl, inr, Bool, true, false, List, [], ◌++◌, length, refl, sym, ap, ◌∙◌, subst, arith, Option, Some, None, Result, Ok, Err}
+use Rattle.std.proofs.Common.{◌≡◌, ◌≢◌, ℕ, ◌+◌, ◌-◌, ◌*◌, ◌^◌, ◌<◌, ◌≤◌, inl, inr, Bool, true, false, List, [], ◌++◌, length, append-nil, refl, sym, ap, ◌∙◌, subst, arith, Option, Some, None, Result, Ok, Err}
 use Rattle.std.specs.Prelude.{◌↔◌, IsTrue}
 use Rattle.std.proofs.Math.Nat.{mul-le-mul_left}
 use Rattle.std.specs.Borrow.{Bor}
-use Rattle.std.specs.Io.KnownBytes.{Appends}
+use Rattle.std.specs.Io.KnownBytes.{Appends, append_known}
 use Rattle.shelf_io.specs.Shelf.{Told, Untold, Missing, Holds, written}
 use Rattle.decision_process.specs.sweeps.Sweeps.{rounds_at}
 use Rattle.certificate.specs.Content.{Content, text_of, most_bytes}
@@ -19,17 +19,21 @@ use Rattle.ground_meaning.specs.progress.Laws.{TaskIntervalNarrows}
 use Rattle.ground_model.specs.Ground.{Ground}
 use Rattle.ground_model.specs.Steps.{ground_process, ground_starts}
 use Rattle.ground_meaning.specs.stands.Laws.{IsCarried, StatesAreFound, NearIsCarried, NearIsFound, SameLeast, SamePlain, SameDepth}
-use Rattle.plan_app.specs.certificates.Laws.{NamesAreCarried, BalanceIsCarried, TaskIsEnclosed, TaskPolicyEnds}
+use Rattle.plan_app.specs.certificates.Laws.{IsCarried as CertificatesAreCarried, NamesAreCarried, BalanceIsCarried, TaskIsEnclosed, TaskPolicyEnds}
 use Rattle.plan_request.specs.declared.effort.Effort.{Effort}
 use Rattle.plan_request.specs.declared.sizes.Sizes.{Sizes}
+use Rattle.plan_request.specs.declared.lower.Lower.{Lower}
+use Rattle.plan_request.specs.declared.lower.Lower.TheVariants as lowers
 use Rattle.plan_request.specs.Asked.{Sources, Solving, to_solve, to_serve, to_bench}
 use Rattle.plan_request.specs.Laws.{AreTerms}
 use Rattle.plan_report.specs.Line.{line_text}
 use Rattle.plan_report.specs.declared.ending.Ending.TheVariants.{Converged}
-use Rattle.plan_report.specs.Solved.{Solved, solve_text}
+use Rattle.plan_report.specs.Reports.{under_line}
+use Rattle.plan_report.specs.Solved.{Solved}
 use Rattle.plan_search.specs.Found.{IsFound}
 use Rattle.plan_search.specs.declared.answer.Answer.{Answer}
 use Rattle.plan_search.specs.Answers.{IsAnswerOf}
+use Rattle.plan_search.specs.Under.{under_cost, with_report, IsAnswerWith}
 use Rattle.plan_search.specs.Serving.{stop_of, IsServiceOf, KeepsEach}
 use Rattle.policy_server.specs.declared.serve_end.ServeEnd.{ServeEnd}
 use Rattle.policy_server.specs.declared.served.Served.{Served}
@@ -47,6 +51,8 @@ use Rattle.plan_app.specs.Measuring.{line_sources, line_problem, bench_effort, b
 use Rattle.plan_app.specs.Endings.{said_by, IsMeasured, exchange, Answered, AnswersLine, IsWritten, AnswersSearch, AnswersSolve, EndsBehind, HasService, MayEndAs}
 use Rattle.plan_app.specs.Verdicts.{TellsSearch, HasVerdict, HasReport}
 use Rattle.plan_app.specs.Solutions.{IsAsNarrowAsPlain, Solves, PutsSolution, PutsService, PutsMeasure}
+use Rattle.plan_app.specs.Below.{PutsBelow, PutsSolved}
+use Rattle.plan_app.proofs.Below.{appends_known, appends_rest, told_below}
 use Rattle.plan_app.proofs.Named.{names_balanced, names_enclose, names_end}
 use Rattle.plan_app.proofs.Replies.{replies_tell}
 use Rattle.plan_app.proofs.States.{states_found}
@@ -212,34 +218,35 @@ module _ (stands : ProblemStands) (back : StatesAreFound) (near_carried : NearIs
 
     wrote_of : (s : Solving) (t : Texts) (r : Result Ground Stop) → problem_of s.sources t ≡ r → (e : Ending) → HasReport (ending_status e)
         → AnswersSolve held writes old new s r e
-        → (g : Ground) × (problem_of s.sources t ≡ Ok g) × IsWritten held writes old new s.certificate (IsAnswerOf g s.effort s.sizes) e
-    wrote_of s t (Ok g) gives e has answers = (g, gives, search_wrote s g (IsAnswerOf g s.effort s.sizes) e has answers)
+        → (g : Ground) × (problem_of s.sources t ≡ Ok g) × IsWritten held writes old new s.certificate (IsAnswerWith g s.effort s.sizes s.lower) e
+    wrote_of s t (Ok g) gives e has answers = (g, gives, search_wrote s g (IsAnswerWith g s.effort s.sizes s.lower) e has answers)
     wrote_of s t (Err stop) gives e has says =
         absurd (text_status stop (stops s.sources t stop gives) (subst (λ e. HasReport (ending_status e)) (sym says) has))
 
-    module _ (s : Solving) (t : Texts) (are : AreTerms s.sources) (tells : held old s.certificate ≢ Untold) (before now : Option (List ℕ))
-        (put : Appends before now text) (g : Ground) (gives : problem_of s.sources t ≡ Ok g) where
-      -- what stands behind the answers, of this problem and this certificate
-      record HasSolution (c : Content) : Type 0 where
-        pub solution : PutsSolution s t status (held new s.certificate) ends.answers before now
+    module _ (s : Solving) (t : Texts) (are : AreTerms s.sources) (tells : held old s.certificate ≢ Untold)
+        (g : Ground) (gives : problem_of s.sources t ≡ Ok g) where
+      -- what stands behind these answers, of this problem and this certificate
+      record HasSolution (c : Content) (answers : List ℕ) (before now : Option (List ℕ)) : Type 0 where
+        pub solution : PutsSolution s t status (held new s.certificate) answers before now
         pub same_problem : solution.solves.g ≡ g
         pub same_content : solution.solves.c ≡ c
 
-      solution_from : (Is : Answer → Type 0) (wrote : IsWritten held writes old new s.certificate Is ends.ending)
-          (its : IsAnswerOf g s.effort s.sizes wrote.answer) → HasSolution its.content
+      -- the certificate was written, and its text was said: the report, or what has the report in front
+      solution_of : (a : Answer) (its : IsAnswerOf g s.effort s.sizes a)
+          → held new s.certificate ≡ written (held old s.certificate) a.certificate
+          → (said : List ℕ) → Ok (said_by a.converged said) ≡ ends.ending
+          → (answers : List ℕ) (before now : Option (List ℕ)) → Appends before now (answers ++ a.report)
+          → HasSolution its.content answers before now
       unfolding solved
-      solution_from Is wrote its =
-          let a = wrote.answer in
+      solution_of a its holds said says answers before now put =
           let c = its.content in
           let zero : (status ≡ 0) ↔ (c.upper ≤ c.lower + s.effort.gap) =
-          subst (λ n. (n ≡ 0) ↔ (c.upper ≤ c.lower + s.effort.gap)) (sym (ends.status_is ∙ sym (ap ending_status wrote.says)))
-          (said_status a.converged a.report _ _ its.report.converged_is its.found.converged) in
-          let says : ending_text ends.ending ≡ solve_text g (ground_certificate g c).rows its.solved =
-          sym (ap ending_text wrote.says) ∙ said_text a.converged a.report ∙ its.report.text in
+          subst (λ n. (n ≡ 0) ↔ (c.upper ≤ c.lower + s.effort.gap)) (sym (ends.status_is ∙ sym (ap ending_status says)))
+          (said_status a.converged said _ _ its.report.converged_is its.found.converged) in
           record {
             solution = record {
               solves = solved s.sources t are s.effort s.sizes status g gives c its.solved its.found zero;
-              holds = wrote.holds ∙ told_written (held old s.certificate) a.certificate tells ∙ ap Holds its.text;
+              holds = holds ∙ told_written (held old s.certificate) a.certificate tells ∙ ap Holds its.text;
               accepted = (
                 g,
                 c,
@@ -251,11 +258,50 @@ module _ (stands : ProblemStands) (back : StatesAreFound) (near_carried : NearIs
                 },
                 its.found.balanced,
               );
-              put = subst (Appends before now) (ends.text_is ∙ ap (λ report. ends.answers ++ report) says) put;
+              put = subst (Appends before now) (ap (λ report. answers ++ report) its.report.text) put;
             };
             same_problem = refl;
             same_content = refl;
           }
+
+      -- what is told from below stands behind the report
+      below_of : (certified : CertificatesAreCarried) (a : Answer) (w : IsAnswerWith g s.effort s.sizes lowers.Cost a)
+          → held new s.certificate ≡ written (held old s.certificate) a.certificate → Ok (said_by a.converged a.report) ≡ ends.ending
+          → (before now : Option (List ℕ)) → Appends before now a.report → PutsBelow s t status (held new s.certificate) before now
+      below_of certified a w holds says before now put =
+          let has = solution_of (with_report a w.plain) w.is_answer holds a.report says [] before (append_known before w.plain)
+          (appends_known before w.plain) in
+          let found = has.solution.solves in
+          let whole = subst (Appends before now) w.behind put in
+          let line : Appends (append_known before w.plain) now (under_line (under_cost g (ground_certificate g w.is_answer.content).rows))
+          = appends_rest before now w.plain (under_line (under_cost g (ground_certificate g w.is_answer.content).rows)) whole in
+          record {
+            middle = append_known before w.plain;
+            solution = has.solution;
+            lower = under_cost found.g (ground_certificate found.g found.c).rows;
+            told = told_below found.g found.of_task.task found.of_task.charges found.of_task.stands found.c found.found.balanced certified names carried;
+            line = subst (Appends (append_known before w.plain) now)
+                (sym (λ j. under_line (under_cost (has.same_problem j) (ground_certificate (has.same_problem j) (has.same_content j)).rows))) line;
+          }
+
+      solved_with : (certified : CertificatesAreCarried) (lower : Lower) (a : Answer) (w : IsAnswerWith g s.effort s.sizes lower a)
+          → held new s.certificate ≡ written (held old s.certificate) a.certificate → Ok (said_by a.converged a.report) ≡ ends.ending
+          → (before now : Option (List ℕ)) → Appends before now a.report → PutsSolved lower s t status (held new s.certificate) before now
+      solved_with certified lowers.None a w holds says before now put =
+          (solution_of (with_report a w.plain) w.is_answer holds a.report says [] before now
+          (subst (Appends before now) (w.behind ∙ append-nil w.plain) put)).solution
+      solved_with certified lowers.Cost a w holds says before now put = below_of certified a w holds says before now put
+
+    module _ (s : Solving) (t : Texts) (are : AreTerms s.sources) (tells : held old s.certificate ≢ Untold) (before now : Option (List ℕ))
+        (put : Appends before now text) (g : Ground) (gives : problem_of s.sources t ≡ Ok g) where
+      -- behind the answers of a server
+      solution_from : (Is : Answer → Type 0) (wrote : IsWritten held writes old new s.certificate Is ends.ending)
+          (its : IsAnswerOf g s.effort s.sizes wrote.answer) → HasSolution s t are tells g gives its.content ends.answers before now
+      solution_from Is wrote its =
+          let a = wrote.answer in
+          let says : ending_text ends.ending ≡ a.report = sym (ap ending_text wrote.says) ∙ said_text a.converged a.report in
+          solution_of s t are tells g gives a its wrote.holds a.report wrote.says ends.answers before now
+          (subst (Appends before now) (ends.text_is ∙ ap (λ report. ends.answers ++ report) says) put)
 
       -- what a server answered of this problem
       service_from : (served : Served) (replies : List Reply) → Answered g s.sizes.sweep_states (exchange from to ends.answers) served replies
@@ -289,13 +335,17 @@ module _ (stands : ProblemStands) (back : StatesAreFound) (near_carried : NearIs
       | inr service ↦ absurd service
     ]
 
-    pub solution_put : (told : OneProblemIsTold) (s : Solving) (t : Texts) → AreTerms s.sources → TellsSearch words (held old) to_solve s t
-        → (before now : Option (List ℕ)) → Appends before now text → PutsSolution s t status (held new s.certificate) [] before now
-    solution_put told s t are tells before now put =
+    pub solution_put : (certified : CertificatesAreCarried) (told : OneProblemIsTold) (s : Solving) (t : Texts) → AreTerms s.sources → TellsSearch words (held old) to_solve s t
+        → (before now : Option (List ℕ)) → Appends before now text → PutsSolved s.lower s t status (held new s.certificate) before now
+    solution_put certified told s t are tells before now put =
         let answers = (answers_of ends (to_solve s) tells.asks (λ none. none) (report_is_a_verdict status is)).1 in
         let found = wrote_of s t answers.0 (told (held old) s.sources t tells.texts answers.0 answers.1) ends.ending ending_is answers.2 in
-        let has = solution_from s t are tells.certificate before now put found.0 found.1 (IsAnswerOf found.0 s.effort s.sizes) found.2 found.2.is_answer in
-        subst (λ answers. PutsSolution s t status (held new s.certificate) answers before now) (no_answers s tells.asks) has.solution
+        let a = found.2.answer in
+        let says : text ≡ a.report =
+        ends.text_is ∙ ap (λ answers. answers ++ ending_text ends.ending) (no_answers s tells.asks)
+        ∙ sym (ap ending_text found.2.says) ∙ said_text a.converged a.report in
+        solved_with s t are tells.certificate found.0 found.1 certified s.lower a found.2.is_answer found.2.holds found.2.says before now
+        (subst (Appends before now) says put)
 
     -- behind a server that no fault stopped
     behind_wrote : (s : Solving) (g : Ground) (replies : List Reply) (end : ServeEnd) (o : Option Stop) → stop_of end ≡ o

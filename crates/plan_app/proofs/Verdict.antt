@@ -22,7 +22,8 @@ use Rattle.plan_request.specs.declared.sizes.Sizes.{Sizes}
 use Rattle.plan_report.specs.Line.{line_text}
 use Rattle.plan_report.specs.Reports.{accepted_text, ground_text}
 use Rattle.plan_request.specs.declared.stop.Stop.{Stop}
-use Rattle.plan_search.specs.Answers.{IsAnswerOf, IsTooLong}
+use Rattle.plan_search.specs.Answers.{IsTooLong}
+use Rattle.plan_search.specs.Under.{IsAnswerWith}
 use Rattle.plan_search.specs.Serving.{stop_of, IsServiceOf}
 use Rattle.plan_search.specs.declared.answer.Answer.{Answer}
 use Rattle.policy_server.specs.declared.serve_end.ServeEnd.{ServeEnd}
@@ -203,7 +204,7 @@ module _ {S : Type 0} (held : S → List ℕ → Told) (writes : S → ℕ) (old
       subst (λ e. IsOfProblem (IsLongFor (to_solve s) g) (ending_status e)) says (four_leads (IsLongFor (to_solve s) g) 4 refl)
 
   solve_leads : (s : Solving) (r : Result Ground Stop) (e : Ending) → AnswersSolve held writes old new s r e → Leads (IsLongFor (to_solve s)) r e
-  solve_leads s (Ok g) e answers = searched_leads s g (IsAnswerOf g s.effort s.sizes) e answers
+  solve_leads s (Ok g) e answers = searched_leads s g (IsAnswerWith g s.effort s.sizes s.lower) e answers
   solve_leads s (Err stop) e says = says
 
   -- behind a server

@@ -54,6 +54,7 @@ use Rattle.plan_report.specs.Reports.{accepted_text, ground_text}
 use Rattle.plan_search.specs.declared.answer.Answer.{Answer}
 use Rattle.plan_search.specs.declared.measured.Measured.{Measured}
 use Rattle.plan_search.specs.Answers.{IsAnswerOf, IsMeasuredOf, IsTooLong}
+use Rattle.plan_search.specs.Under.{IsAnswerWith}
 use Rattle.plan_search.specs.Serving.{stop_of, IsServiceOf}
 use Rattle.plan_request.specs.declared.stop.report.Report.{Report}
 use Rattle.plan_request.specs.declared.stop.report.Report.TheVariants.{Done, GapLeft}
@@ -157,7 +158,7 @@ module _ {S : Type 0} (held : S → List ℕ → Told) (writes : S → ℕ) (old
   AnswersSearch s g Is e = IsWritten s.certificate Is e ⊎ (IsTooLongSo g s.effort s.sizes e ⊎ IsUnwritten e)
 
   abbrev pub AnswersSolve : Solving → Result Ground Stop → Ending → Type 0
-  AnswersSolve s (Ok g) e = AnswersSearch s g (IsAnswerOf g s.effort s.sizes) e
+  AnswersSolve s (Ok g) e = AnswersSearch s g (IsAnswerWith g s.effort s.sizes s.lower) e
   AnswersSolve s (Err stop) e = Err stop ≡ e
 
   abbrev pub Answers : Asked → Ending → Type 0

@@ -3,6 +3,7 @@ pub mod Measuring
 pub mod Endings
 pub mod Verdicts
 pub mod Solutions
+pub mod Below
 pub mod Putting
 pub mod Examples
 pub mod certificates

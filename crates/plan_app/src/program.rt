@@ -1,6 +1,6 @@
 //! The top call: all that the program does.
 
-ghost use Rattle.std.specs.Prelude.{◌≡◌, ◌≢◌, ◌⊎◌, ◌↔◌, ℕ, List, [], Err};
+ghost use Rattle.std.specs.Prelude.{◌≡◌, ◌≢◌, ◌⊎◌, ◌↔◌, ℕ, List, Err};
 ghost use Rattle.std.specs.Io.KnownBytes.{Appends};
 ghost use Rattle.shelf_io.specs.Causes.{Rose};
 ghost use Rattle.shelf_io.specs.Streams.{PutsPrefix};
@@ -18,7 +18,8 @@ ghost use Rattle.plan_app.specs.Verdicts.{HasVerdict, HasReport, IsAnswerTo};
 ghost use Rattle.plan_app.specs.Verdicts.{IsRefused, IsLimited, IsGrounded, IsAccepted, IsRejected};
 ghost use Rattle.plan_app.specs.Verdicts.{MayBeTooLong, PutsRefusal, PutsProblem, PutsReport};
 ghost use Rattle.plan_app.specs.Verdicts.{EndsSoon};
-ghost use Rattle.plan_app.specs.Solutions.{PutsSolution, PutsService, PutsMeasure};
+ghost use Rattle.plan_app.specs.Solutions.{PutsService, PutsMeasure};
+ghost use Rattle.plan_app.specs.Below.{PutsSolved};
 ghost use Rattle.plan_app.specs.Putting.{PutsPart, SaysPut, SaysCutShort};
 
 use crate::certificates::task_certificate_laws;
@@ -100,9 +101,10 @@ pub fn run<R: Threads + Sync, S: Shelf, I: Source + Send, O: Sink + Send, G: Gat
 
     // The certificate that was written is one that `check` accepts. It is as narrow as plain rounded iteration
     // makes the interval in so many rounds, and wider than was asked for only where that is too.
+    // What is told from below, if it is asked for, stands in a line behind the report: no plans cost less.
     ensures solves { (s : Solving) (t : Texts)
         → TellsSearch words.now (S.held shelf.old) to_solve s t
-        → HasReport result → PutsSolution s t result (S.held shelf.new s.certificate) []
+        → HasReport result → PutsSolved s.lower s t result (S.held shelf.new s.certificate)
         (O.taken out.old) (O.taken out.new) }
     // Under `serve` the same, behind the answers to all queries, none of which is narrower than the certificate.
     ensures serves { (s : Solving) (t : Texts)

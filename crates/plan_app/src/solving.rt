@@ -35,7 +35,15 @@ pub(crate) fn solve<R: Threads + Sync, S: Shelf, G: Gate>(
 {
     source_laws();
     let problem = problem_of(alloc, &solving.sources, shelf)?;
-    let answer = plan_search::solve(rt, alloc, &problem, &solving.effort, &solving.sizes, gate)?;
+    let answer = plan_search::solve(
+        rt,
+        alloc,
+        &problem,
+        &solving.effort,
+        &solving.sizes,
+        solving.lower,
+        gate,
+    )?;
     write(alloc, solving.certificate, answer, shelf)
 }
 

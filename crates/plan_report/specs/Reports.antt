@@ -3,6 +3,7 @@
 --     counted_line word n    a word and a number
 --     fraction_text n d      `n/d`
 --     interval_line l u      an interval in units
+--     under_line l           what is known from below, in units
 --     accepted_text c        the report of an accepted certificate: its interval and the number of its rows
 --     atom_text atoms n      the text of atom n behind a blank; nothing where there is no such atom
 --     atoms_text atoms ns    those of some atoms
@@ -33,6 +34,9 @@ fraction_text n d = decimal n ++ codes "/" ++ decimal d
 
 abbrev pub interval_line : ℕ → ℕ → List ℕ
 interval_line lower upper = line (codes "interval " ++ units lower ++ codes " " ++ units upper)
+
+abbrev pub under_line : ℕ → List ℕ
+under_line l = line (codes "under " ++ units l)
 
 abbrev pub accepted_text : Content → List ℕ
 accepted_text c =

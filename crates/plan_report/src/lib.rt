@@ -11,6 +11,7 @@ mod laws;
 mod line;
 mod pieces;
 mod solved;
+mod under;
 mod units;
 
 pub use accepted::check_report;
@@ -20,4 +21,5 @@ pub use grounded::ground_report;
 pub use laws::report_laws;
 pub use line::line_problem;
 pub use solved::solve_report;
+pub use under::with_under;
 pub use units::put_units;

@@ -1,18 +1,20 @@
 -- The command of words in form, and what stands under its names.
-use Rattle.std.proofs.Common.{◌≡◌, refl, ap, subst, inl, inr, List, [], ◌∷◌, length, Option, Some, None, lit<}
-use Rattle.std.specs.Prelude.{find, codes, nat_eq, option_map}
+use Rattle.std.proofs.Common.{◌≡◌, refl, ap, subst, inl, inr, Bool, true, false, ◌||◌, List, [], ◌∷◌, length, Option, Some, None, lit<}
+use Rattle.std.specs.Prelude.{find, codes, nat_eq, option_map, option_and_then}
 use Rattle.std.proofs.lemmas.Option.{option_and_then_some, cond_some}
 use Rattle.std.specs.Str.{bytes_eq}
-use Rattle.plan_request.specs.words.Words.{Text, Item, positionals_of, read}
+use Rattle.plan_request.specs.words.Words.{Text, Item, is_among, positionals_of, read}
 use Rattle.plan_request.specs.words.Table.{Form, forms, run_options, solve_form, check_form, serve_form, ground_form, bench_form}
 use Rattle.plan_request.specs.words.Scans.{behind_name, formed, if_counted}
 use Rattle.plan_request.specs.words.Parses.{HasValues}
 use Rattle.plan_request.specs.declared.words.parsing.Parsed.{Parsed}
 use Rattle.plan_request.specs.declared.command.Command.{Command}
 use Rattle.plan_request.specs.declared.command.Command.TheVariants.{Solve, Check, Serve, Ground, Bench}
+use Rattle.plan_request.specs.declared.lower.Lower.{Lower}
+use Rattle.plan_request.specs.declared.lower.Lower.TheVariants as lowers
 use Rattle.plan_request.specs.Commands.{command_named}
 use Rattle.plan_request.specs.Asked.{Given, to_solve, to_serve, to_ground, given_in}
-use Rattle.plan_request.specs.Asked.{sources_of, effort_of, sizes_of, solving_of, checked_of, benched_of, asked_by}
+use Rattle.plan_request.specs.Asked.{sources_of, effort_of, sizes_of, lower_of, solving_of, solved_of, checked_of, benched_of, asked_by}
 use Rattle.plan_request.specs.Shown.{given_by}
 use Rattle.plan_request.proofs.Options.{chosen}
 
@@ -72,9 +74,14 @@ module _ (g h : Given) where
   unfolding sizes_of
   sizes_same a b c = rw (a, b, c) refl
 
-  solving_same : sources_of g ≡ sources_of h → g (codes "cert") ≡ h (codes "cert") → effort_of g ≡ effort_of h → sizes_of g ≡ sizes_of h → solving_of g ≡ solving_of h
+  solving_same : (lower : Lower) → sources_of g ≡ sources_of h → g (codes "cert") ≡ h (codes "cert") → effort_of g ≡ effort_of h → sizes_of g ≡ sizes_of h → solving_of lower g ≡ solving_of lower h
   unfolding solving_of
-  solving_same a b c d = rw (a, b, c, d) refl
+  solving_same lower a b c d = rw (a, b, c, d) refl
+
+  solved_same : g (codes "lower") ≡ h (codes "lower") → ((lower : Lower) → solving_of lower g ≡ solving_of lower h) → solved_of g ≡ solved_of h
+  unfolding solved_of
+  solved_same a b =
+      (λ j. option_and_then (λ lower. option_and_then (λ s. Some (to_solve s)) (b lower j)) (lower_of (a j)))
 
   checked_same : sources_of g ≡ sources_of h → g (codes "cert") ≡ h (codes "cert") → checked_of g ≡ checked_of h
   unfolding checked_of
@@ -89,22 +96,37 @@ abbrev reading : Text → List Text → Form
 reading name options = record { name = name; options = options; words = codes "DOMAIN" ∷ [] }
 
 module _ (name : Text) (items : List Item) (p : Parsed) where
-  solving_found : HasValues (reading name run_options) items p → solving_of (given_by p) ≡ solving_of (given_in (reading name run_options) items)
-  solving_found v =
+  solving_found : (lower : Lower) → HasValues (reading name run_options) items p
+      → solving_of lower (given_by p) ≡ solving_of lower (given_in (reading name run_options) items)
+  solving_found lower v =
       let g = given_by p in
       let h = given_in (reading name run_options) items in
-      solving_same g h
+      solving_same g h lower
       (sources_same g h (v.words 0 (lit< tt)) (v.options (codes "problem") refl) (v.options (codes "penalty") refl) (v.options (codes "step-cost") refl))
       (v.options (codes "cert") refl)
       (effort_same g h (v.options (codes "gap") refl) (v.options (codes "rounds") refl) (v.options (codes "trials") refl) (v.options (codes "depth") refl)
       (v.options (codes "tau") refl) (v.options (codes "seed") refl))
       (sizes_same g h (v.options (codes "workers") refl) (v.options (codes "states") refl) (v.options (codes "sweep-states") refl))
 
+-- what is found under more options is found under fewer
+or_right : (a b : Bool) → b ≡ true → (a || b) ≡ true
+or_right true b is = refl
+or_right false b is = is
+
+fewer : (name option : Text) (options : List Text) (items : List Item) (p : Parsed) → HasValues (reading name (option ∷ options)) items p
+    → HasValues (reading name options) items p
+fewer name option options items p v = record {
+  options = λ n among. v.options n (or_right (bytes_eq option n) (is_among n options) among);
+  words = v.words;
+}
+
 asked_found : (c : Command) (items : List Item) (p : Parsed) → HasValues (form_of c) items p
     → asked_by (form_of c).name (given_by p) ≡ asked_by (form_of c).name (given_in (form_of c) items)
 unfolding command_named
-asked_found Solve items p v = ap (option_map to_solve) (solving_found (codes "solve") items p v)
-asked_found Serve items p v = ap (option_map to_serve) (solving_found (codes "serve") items p v)
+asked_found Solve items p v =
+    solved_same (given_by p) (given_in solve_form items) (v.options (codes "lower") refl)
+    (λ lower. solving_found (codes "solve") items p lower (fewer (codes "solve") (codes "lower") run_options items p v))
+asked_found Serve items p v = ap (option_map to_serve) (solving_found (codes "serve") items p lowers.None v)
 asked_found Check items p v =
     let g = given_by p in
     let h = given_in check_form items in

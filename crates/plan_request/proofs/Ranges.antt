@@ -9,10 +9,12 @@ use Rattle.plan_request.specs.words.Scans.{formed}
 use Rattle.plan_request.specs.words.Words.{Text}
 use Rattle.plan_request.specs.Numbers.{◌>>=◌, whole, amount, at_least, unless_given}
 use Rattle.plan_request.specs.Commands.{command_named}
+use Rattle.plan_request.specs.declared.lower.Lower.{Lower}
+use Rattle.plan_request.specs.declared.lower.Lower.TheVariants as lowers
 use Rattle.plan_request.specs.declared.command.Command.{Command}
 use Rattle.plan_request.specs.declared.command.Command.TheVariants.{Solve, Check, Serve, Ground, Bench}
-use Rattle.plan_request.specs.Asked.{Given, Asked, to_solve, to_serve, to_ground, given_in}
-use Rattle.plan_request.specs.Asked.{penalty_of, sources_of, effort_of, sizes_of, solving_of, checked_of, benched_of, asked_as, asked_by, request_of}
+use Rattle.plan_request.specs.Asked.{Given, Asked, to_serve, to_ground, given_in, lower_of}
+use Rattle.plan_request.specs.Asked.{penalty_of, sources_of, effort_of, sizes_of, solving_of, solved_of, checked_of, benched_of, asked_as, asked_by, request_of}
 use Rattle.plan_request.specs.Laws.{IsBetween, AreTerms, IsEffort, AreSizes, IsSolving, IsInRange}
 use Rattle.plan_request.proofs.Options.{of_some, if_then_some, if_mapped, if_bound, if_any}
 
@@ -101,14 +103,20 @@ sizes_in given =
     (λ states b. if_bound _ AreSizes (unless_given (min 4096 (states - 1)) (whole 64 (states - 1)) (given (codes "sweep-states"))) _ (whole_in (min 4096 (states - 1)) 64 (states - 1) (swept_default states b.0) (given (codes "sweep-states")))
     (λ swept c. record { workers = a; states = b; least_swept = c.0; fewer_swept = omega (arith, c.1, b.0) })))
 
-solving_in : (given : Given) → IfSome (solving_of given) IsSolving
+solving_in : (lower : Lower) (given : Given) → IfSome (solving_of lower given) IsSolving
 unfolding solving_of
-solving_in given =
+solving_in lower given =
     if_bound AreTerms IsSolving (sources_of given) _ (sources_in given)
     (λ sources a. if_bound _ IsSolving (given (codes "cert")) _ (if_any _)
     (λ certificate _. if_bound IsEffort IsSolving (effort_of given) _ (effort_in given)
     (λ effort b. if_bound AreSizes IsSolving (sizes_of given) _ (sizes_in given)
     (λ sizes c. record { terms = a; effort = b; sizes = c }))))
+
+solved_in : (given : Given) → IfSome (solved_of given) IsInRange
+unfolding solved_of
+solved_in given =
+    if_bound _ IsInRange (lower_of (given (codes "lower"))) _ (if_any _)
+    (λ lower _. if_bound IsSolving IsInRange (solving_of lower given) _ (solving_in lower given) (λ solving holds. holds))
 
 checked_in : (given : Given) → IfSome (checked_of given) IsInRange
 unfolding checked_of
@@ -124,9 +132,9 @@ benched_in given =
     (λ seed b. (a, omega (arith, b.1))))
 
 asked_in : (command : Command) (given : Given) → IfSome (asked_as command given) IsInRange
-asked_in Solve given = if_mapped IsSolving IsInRange to_solve (solving_of given) (solving_in given) (λ s holds. holds)
+asked_in Solve given = solved_in given
 asked_in Check given = checked_in given
-asked_in Serve given = if_mapped IsSolving IsInRange to_serve (solving_of given) (solving_in given) (λ s holds. holds)
+asked_in Serve given = if_mapped IsSolving IsInRange to_serve (solving_of lowers.None given) (solving_in lowers.None given) (λ s holds. holds)
 asked_in Ground given = if_mapped AreTerms IsInRange to_ground (sources_of given) (sources_in given) (λ s holds. holds)
 asked_in Bench given = benched_in given
 

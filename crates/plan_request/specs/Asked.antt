@@ -1,7 +1,10 @@
 -- What the words of a command line ask for. `given` is what stands under a name: the value of an option,
 -- without its hyphens, or a positional word.
 --     Sources, sources_of given    the texts of a task and the terms on which it is read
---     Solving, solving_of given    a task to solve, the name of its certificate, and the search
+--     lower_named name, lower_of text
+--                                  what is told of the cost from below where this is given; nothing where nothing is
+--     Solving, solving_of lower given
+--                                  a task to solve, the name of its certificate, the search, and what it tells from below
 --     effort_of given, sizes_of given
 --                                  when the search ends and what its trials are, and its sizes
 --     Asked                        a request
@@ -9,7 +12,7 @@
 --     given_in f items             what stands under a name in words in form
 --     request_of words             the request of the words behind the program's name, if they have one
 -- Amounts are in micro-units, a millionth of a unit.
-use Rattle.std.specs.Prelude.{ℕ, ◌-◌, ◌^◌, min, List, Option, Some, None, option_map, position, slice_get, codes}
+use Rattle.std.specs.Prelude.{ℕ, ◌-◌, ◌^◌, min, if◌then◌else◌, List, Option, Some, None, option_map, position, slice_get, codes}
 use Rattle.std.specs.Str.{bytes_eq}
 use Rattle.plan_request.specs.words.Words.{Text, Item, positionals_of, value_of}
 use Rattle.plan_request.specs.words.Table.{Form}
@@ -17,6 +20,8 @@ use Rattle.plan_request.specs.words.Scans.{formed}
 use Rattle.plan_request.specs.declared.command.Command.{Command}
 use Rattle.plan_request.specs.declared.command.Command.TheVariants.{Solve, Check, Serve, Ground, Bench}
 use Rattle.plan_request.specs.declared.effort.Effort.{Effort}
+use Rattle.plan_request.specs.declared.lower.Lower.{Lower}
+use Rattle.plan_request.specs.declared.lower.Lower.TheVariants as lowers
 use Rattle.plan_request.specs.declared.sizes.Sizes.{Sizes}
 use Rattle.plan_request.specs.Numbers.{◌>>=◌, whole, amount, unless_given}
 use Rattle.plan_request.specs.Commands.{command_named}
@@ -60,19 +65,29 @@ sizes_of given = do
   sweep_states ← unless_given (min 4096 (states - 1)) (whole 64 (states - 1)) (given (codes "sweep-states"))
   Some (record { workers = workers; states = states; sweep_states = sweep_states })
 
+unfoldable pub lower_named : Text → Option Lower
+lower_named name =
+    if bytes_eq (codes "none") name then Some lowers.None
+    else if bytes_eq (codes "cost") name then Some lowers.Cost
+    else None
+
+abbrev pub lower_of : Option Text → Option Lower
+lower_of = unless_given lowers.None lower_named
+
 pub record Solving : Type 0 where
   pub sources : Sources
   pub certificate : Text
   pub effort : Effort
   pub sizes : Sizes
+  pub lower : Lower
 
-unfoldable pub solving_of : Given → Option Solving
-solving_of given = do
+unfoldable pub solving_of : Lower → Given → Option Solving
+solving_of lower given = do
   sources ← sources_of given
   certificate ← given (codes "cert")
   effort ← effort_of given
   sizes ← sizes_of given
-  Some (record { sources = sources; certificate = certificate; effort = effort; sizes = sizes })
+  Some (record { sources = sources; certificate = certificate; effort = effort; sizes = sizes; lower = lower })
 
 -- ---- requests
 
@@ -83,6 +98,12 @@ pub data Asked : Type 0 where
   to_ground : Sources → Asked
   -- the places, and the seed
   to_bench : ℕ → ℕ → Asked
+
+unfoldable pub solved_of : Given → Option Asked
+solved_of given = do
+  lower ← lower_of (given (codes "lower"))
+  solving ← solving_of lower given
+  Some (to_solve solving)
 
 unfoldable pub checked_of : Given → Option Asked
 checked_of given = do
@@ -97,9 +118,9 @@ benched_of given = do
   Some (to_bench places seed)
 
 abbrev pub asked_as : Command → Given → Option Asked
-asked_as Solve given = option_map to_solve (solving_of given)
+asked_as Solve given = solved_of given
 asked_as Check given = checked_of given
-asked_as Serve given = option_map to_serve (solving_of given)
+asked_as Serve given = option_map to_serve (solving_of lowers.None given)
 asked_as Ground given = option_map to_ground (sources_of given)
 asked_as Bench given = benched_of given
 

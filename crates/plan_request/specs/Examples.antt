@@ -3,7 +3,7 @@ use Rattle.std.specs.Prelude.{◌≡◌, ◌^◌, [], ◌∷◌, Some, None, cod
 use Rattle.std.proofs.Common.{refl}
 use Rattle.plan_request.specs.Numbers.{whole, amount}
 use Rattle.plan_request.specs.Commands.{command_named}
-use Rattle.plan_request.specs.Asked.{penalty_of, sources_of, effort_of, sizes_of, solving_of, checked_of, benched_of, request_of}
+use Rattle.plan_request.specs.Asked.{penalty_of, sources_of, effort_of, sizes_of, lower_named, solving_of, solved_of, checked_of, benched_of, request_of}
 use Rattle.plan_request.specs.Asked.{to_check, to_bench}
 
 leading-zeros : whole 2 1000 (codes "0002") ≡ Some 2
@@ -24,7 +24,7 @@ no-penalty-of-zero = refl
 
 -- `--cert` is wanted
 solve-coin : request_of (codes "solve" ∷ codes "coin" ∷ []) ≡ None
-unfolding request_of command_named solving_of sources_of penalty_of amount
+unfolding request_of command_named solved_of solving_of sources_of penalty_of amount
 solve-coin = refl
 
 check-coin : request_of (codes "check" ∷ codes "coin" ∷ codes "--cert=c" ∷ codes "--penalty" ∷ codes "2" ∷ [])
@@ -38,8 +38,17 @@ negative-gap = refl
 
 -- as many states swept as the table holds
 all-swept : request_of (codes "solve" ∷ codes "coin" ∷ codes "--cert" ∷ codes "c" ∷ codes "--states" ∷ codes "65" ∷ codes "--sweep-states" ∷ codes "65" ∷ []) ≡ None
-unfolding request_of command_named solving_of sources_of penalty_of effort_of sizes_of whole amount
+unfolding request_of command_named solved_of solving_of sources_of penalty_of effort_of sizes_of whole amount
 all-swept = refl
+
+-- the option belongs to `solve` alone, and has two values
+serve-from-below : request_of (codes "serve" ∷ codes "coin" ∷ codes "--cert" ∷ codes "c" ∷ codes "--lower" ∷ codes "cost" ∷ []) ≡ None
+unfolding request_of
+serve-from-below = refl
+
+solve-relaxed : request_of (codes "solve" ∷ codes "coin" ∷ codes "--cert" ∷ codes "c" ∷ codes "--lower" ∷ codes "relaxed" ∷ []) ≡ None
+unfolding request_of command_named solved_of lower_named
+solve-relaxed = refl
 
 bench-two : request_of (codes "bench" ∷ codes "0002" ∷ codes "4" ∷ []) ≡ Some (to_bench 2 4)
 unfolding request_of command_named benched_of whole

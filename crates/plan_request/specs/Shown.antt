@@ -27,6 +27,7 @@ shown_solving s = record {
   certificate = s.certificate.now;
   effort = s.effort;
   sizes = s.sizes;
+  lower = s.lower;
 }
 
 abbrev pub shown_request : Request → Asked

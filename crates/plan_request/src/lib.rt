@@ -5,6 +5,7 @@
 mod command;
 mod effort;
 mod laws;
+mod lower;
 mod numbers;
 mod request;
 mod sizes;
@@ -15,6 +16,7 @@ mod words;
 
 pub use effort::Effort;
 pub use laws::request_laws;
+pub use lower::Lower;
 pub use request::{Request, request_of};
 pub use sizes::Sizes;
 pub use solving::Solving;

@@ -2,10 +2,12 @@
 
 ghost use Rattle.std.specs.Prelude.{◌≡◌, IfOk, option_map};
 ghost use Rattle.plan_request.specs.words.Shown.{texts_of};
-ghost use Rattle.plan_request.specs.Asked.{request_of, asked_by, asked_as, checked_of, benched_of};
+ghost use Rattle.plan_request.specs.Asked.{request_of, asked_by, asked_as, solved_of};
+ghost use Rattle.plan_request.specs.Asked.{checked_of, benched_of};
 ghost use Rattle.plan_request.specs.Shown.{shown_request, given_by};
 
 use crate::command::{Command, command_named};
+use crate::lower::{Lower, lower_of};
 use crate::numbers::{count_of, whole_of};
 use crate::solving::{Solving, solving_of};
 use crate::sources::{Sources, sources_of};
@@ -65,12 +67,22 @@ fn asked_as<'a>(command: Command, parsed: &Parsed<'a>) -> Option<Request<'a>>
     ensures { option_map shown_request result ≡ asked_as command (given_by parsed.now) }
 {
     match command {
-        Command::Solve => Some(Request::Solve(solving_of(parsed)?)),
+        Command::Solve => solved_of(parsed),
         Command::Check => checked_of(parsed),
-        Command::Serve => Some(Request::Serve(solving_of(parsed)?)),
+        Command::Serve => Some(Request::Serve(solving_of(parsed, Lower::None)?)),
         Command::Ground => Some(Request::Ground(sources_of(parsed)?)),
         Command::Bench => benched_of(parsed),
     }
+}
+
+/// What the words of `solve` ask for.
+#[tactic(auto, unfolding(crate::specs::Asked::solved_of))]
+fn solved_of<'a>(parsed: &Parsed<'a>) -> Option<Request<'a>>
+    ensures { option_map shown_request result ≡ solved_of (given_by parsed.now) }
+{
+    let lower = lower_of(parsed)?;
+    let solving = solving_of(parsed, lower)?;
+    Some(Request::Solve(solving))
 }
 
 /// What the words of `check` ask for.

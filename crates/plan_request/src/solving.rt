@@ -5,6 +5,7 @@ ghost use Rattle.plan_request.specs.Asked.{solving_of};
 ghost use Rattle.plan_request.specs.Shown.{shown_solving, given_by};
 
 use crate::effort::{Effort, effort_of};
+use crate::lower::Lower;
 use crate::sizes::{Sizes, sizes_of};
 use crate::sources::{Sources, sources_of};
 use crate::words::Parsed;
@@ -20,12 +21,14 @@ pub struct Solving<'a> {
     pub effort: Effort,
     /// The sizes of the search.
     pub sizes: Sizes,
+    /// What is told of the cost from below; nothing under `serve`.
+    pub lower: Lower,
 }
 
-/// What the words of a command that solves ask for.
+/// What the words of a command that solves ask for, where this is told of the cost from below.
 #[tactic(auto, unfolding(crate::specs::Asked::solving_of))]
-pub(crate) fn solving_of<'a>(parsed: &Parsed<'a>) -> Option<Solving<'a>>
-    ensures { option_map shown_solving result ≡ solving_of (given_by parsed.now) }
+pub(crate) fn solving_of<'a>(parsed: &Parsed<'a>, lower: Lower) -> Option<Solving<'a>>
+    ensures { option_map shown_solving result ≡ solving_of lower (given_by parsed.now) }
 {
     let sources = sources_of(parsed)?;
     let certificate = parsed.value("cert")?;
@@ -36,5 +39,6 @@ pub(crate) fn solving_of<'a>(parsed: &Parsed<'a>) -> Option<Solving<'a>>
         certificate,
         effort,
         sizes,
+        lower,
     })
 }

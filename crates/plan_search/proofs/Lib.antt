@@ -1,3 +1,4 @@
+pub mod Below
 pub mod Findings
 pub mod Replies
 pub mod Services

@@ -17,7 +17,7 @@ use Rattle.policy_server.specs.Replies.{Reply, NoQuery, NoAtom, Unvisited, Found
 use Rattle.policy_server.specs.declared.served.Served.{Served}
 use Rattle.plan_search.specs.service.Served.{Streams, IsServed, IsKept}
 use Rattle.plan_search.specs.declared.answer.Answer.{Answer}
-use Rattle.plan_search.specs.Answers.{IsAnswerOf, IsTooLong}
+use Rattle.plan_search.specs.Answers.{IsTooLong}
 use Rattle.plan_search.specs.Solving.{solver_sizes, IsAnswerLeft}
 use Rattle.plan_search.specs.declared.solver.sizes.Sizes as solver
 use Rattle.plan_search.specs.Serving.{stop_of, KeepsEach, AnswersBehind, EndsServing}
@@ -40,11 +40,6 @@ module _ (g : Ground) where
   kept_each rows c is (r ∷ rs) kept = (kept_reply rows c is r kept.0, kept_each rows c is rs kept.1)
 
   module _ (effort : Effort) (sizes : Sizes) where
-    -- an answer of what is left is an answer
-    pub is_answer : (left : Closing) (r : Result Answer Stop) → IfOk r (IsAnswerLeft g effort sizes left) → IfOk r (IsAnswerOf g effort sizes)
-    is_answer left (Ok a) is = is.is_answer
-    is_answer left (Err e) is = is
-
     module _ (left : Closing) (replies : List Reply) (kept : AllByRecursion (IsKept g (closing_rows left.image.rows)) replies) where
       answers : (r : Result Answer Stop) → IfOk r (IsAnswerLeft g effort sizes left)
           → IfErr r (λ stop. (stop ≡ NoMemory) ⊎ IsTooLong g effort sizes stop)

@@ -1,5 +1,6 @@
 pub mod Found
 pub mod Answers
+pub mod Under
 pub mod Serving
 pub mod Solving
 pub mod solver

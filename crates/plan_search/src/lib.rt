@@ -11,6 +11,7 @@ mod serving;
 mod solver;
 mod solving;
 mod terms;
+mod under;
 
 pub use answer::Answer;
 pub use measured::Measured;

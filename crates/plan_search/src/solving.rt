@@ -5,16 +5,17 @@ ghost use Rattle.plan_report.specs.certificates.Certificates.{HasNameLists};
 ghost use Rattle.plan_search.specs.solver.Solved.{IsSolved};
 ghost use Rattle.plan_request.specs.Laws.{IsEffort, AreSizes};
 ghost use Rattle.plan_request.specs.declared.stop.Stop.TheVariants.{NoMemory};
-ghost use Rattle.plan_search.specs.Answers.{IsAnswerOf, IsMeasuredOf, IsTooLong};
+ghost use Rattle.plan_search.specs.Answers.{IsMeasuredOf, IsTooLong};
 ghost use Rattle.plan_search.specs.Solving.{solver_effort, solver_sizes};
+ghost use Rattle.plan_search.specs.Under.{IsAnswerWith};
 
 use crate::answer::Answer;
-use crate::answering::{answer_of, measured_of};
+use crate::answering::{answer_with, measured_of};
 use crate::measured::Measured;
 use crate::solver::Closing;
 use crate::terms::{solver_effort, solver_sizes};
 use ground_model::GroundProblem;
-use plan_request::{Effort, Sizes, Stop};
+use plan_request::{Effort, Lower, Sizes, Stop};
 use shelf_io::Gate;
 use std::alloc::{AllocError, Global};
 use std::thread::Threads;
@@ -38,7 +39,8 @@ fn search<R: Threads + Sync, G: Gate>(
     crate::solver::solve(rt, alloc, problem, &sizes, &effort, gate)
 }
 
-/// Solves a ground problem: the text of a certificate of what was found, and the report.
+/// Solves a ground problem: the text of a certificate of what was found, and the report, with the line of what is told
+/// from below behind it. The certificate and the report before that line do not depend on what is told.
 ///
 /// It is refused for want of memory, and where the text would be above its greatest length.
 pub fn solve<R: Threads + Sync, G: Gate>(
@@ -47,17 +49,18 @@ pub fn solve<R: Threads + Sync, G: Gate>(
     problem: &GroundProblem,
     effort: &Effort,
     sizes: &Sizes,
+    lower: Lower,
     gate: &G,
 ) -> Result<Answer, Stop>
     requires names { HasNameLists problem.now }
     requires effort { IsEffort effort.now }
     requires sizes { AreSizes sizes.now }
-    ensures answer { IfOk result (IsAnswerOf problem.now effort.now sizes.now) }
+    ensures answer { IfOk result (IsAnswerWith problem.now effort.now sizes.now lower) }
     ensures stops { IfErr result (λ stop. (stop ≡ NoMemory)
         ⊎ IsTooLong problem.now effort.now sizes.now stop) }
 {
     let closing = search(rt, alloc, problem, effort, sizes, gate)?;
-    answer_of(alloc, problem, effort, sizes, closing)
+    answer_with(alloc, problem, effort, sizes, lower, closing)
 }
 
 /// Solves a ground problem whose certificate is not asked for: the report alone, and no text of the certificate

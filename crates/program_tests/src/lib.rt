@@ -18,6 +18,8 @@ mod gates;
 #[cfg(test)]
 mod limits;
 #[cfg(test)]
+mod lowers;
+#[cfg(test)]
 mod problems;
 #[cfg(test)]
 mod reports;

@@ -1,6 +1,6 @@
 //! What words ask for.
 
-use plan_request::{Effort, Request, Sizes, request_of};
+use plan_request::{Effort, Lower, Request, Sizes, request_of};
 use std::test::Fail;
 
 const DEFAULT_EFFORT: Effort = Effort {
@@ -50,12 +50,13 @@ fn searches_have_defaults(rt: HostRuntime) -> Result<(), Fail> {
         assert_eq!(rt; found.certificate, *certificate, "{line}");
         assert_eq!(rt; found.effort, *effort, "{line}");
         assert_eq!(rt; found.sizes, *sizes, "{line}");
+        assert_eq!(rt; found.lower, Lower::None, "{line}");
     }
     Ok(())
 }
 
 /// Words that ask for nothing.
-static BAD: [&str; 17] = [
+static BAD: [&str; 20] = [
     "",
     "help",
     "solve coin --help",
@@ -70,6 +71,9 @@ static BAD: [&str; 17] = [
     "ground coin --step-cost 1 --step-cost 1",
     "solve coin --cert c --gap 1 --gap 2",
     "ground coin --cert c",
+    "serve coin --cert c --lower cost",
+    "check coin --cert c --lower cost",
+    "solve coin --cert c --lower relaxed",
     // Numbers out of their ranges.
     "check coin --cert c --penalty 0",
     "solve coin --cert c --states 65 --sweep-states 65",

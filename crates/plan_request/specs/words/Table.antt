@@ -86,8 +86,11 @@ abbrev pub run_options : List Text
 run_options = codes "cert" ∷ codes "problem" ∷ codes "penalty" ∷ codes "step-cost" ∷ codes "gap" ∷ codes "rounds" ∷ codes "trials" ∷ codes "depth" ∷ codes "tau"
     ∷ codes "workers" ∷ codes "states" ∷ codes "sweep-states" ∷ codes "seed" ∷ []
 
+abbrev pub solve_options : List Text
+solve_options = codes "lower" ∷ run_options
+
 abbrev pub solve_form : Form
-solve_form = record { name = codes "solve"; options = run_options; words = codes "DOMAIN" ∷ [] }
+solve_form = record { name = codes "solve"; options = solve_options; words = codes "DOMAIN" ∷ [] }
 
 abbrev pub check_form : Form
 check_form = record { name = codes "check"; options = codes "cert" ∷ text_options; words = codes "DOMAIN" ∷ [] }

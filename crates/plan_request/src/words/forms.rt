@@ -37,6 +37,23 @@ static RUN_OPTIONS: [&str; 13] = [
     "seed",
 ];
 
+static SOLVE_OPTIONS: [&str; 14] = [
+    "lower",
+    "cert",
+    "problem",
+    "penalty",
+    "step-cost",
+    "gap",
+    "rounds",
+    "trials",
+    "depth",
+    "tau",
+    "workers",
+    "states",
+    "sweep-states",
+    "seed",
+];
+
 static NO_OPTIONS: [&str; 0] = [];
 
 static DOMAIN: [&str; 1] = ["DOMAIN"];
@@ -49,7 +66,7 @@ pub(super) fn solve() -> Form
 {
     Form {
         name: "solve",
-        options: RUN_OPTIONS.as_slice(),
+        options: SOLVE_OPTIONS.as_slice(),
         words: DOMAIN.as_slice(),
     }
 }

@@ -138,7 +138,7 @@ returns-clause-solves g c = λ s t tells has.
     c.same_level_laws.ensures.depth c.same_value_laws.ensures.plain
     c.task_certificate_laws.ensures.names c.task_certificate_laws.ensures.balance c.task_certificate_laws.ensures.encloses c.task_certificate_laws.ensures.ends
     c.task_progress_laws.ensures.starts c.task_laws.ensures.well_formed c.task_laws.ensures.proper c.task_laws.ensures.proper_starts
-    (ended_at g c written) has c.source_laws.ensures.stops c.source_laws.ensures.told s t
+    (ended_at g c written) has c.source_laws.ensures.stops c.task_certificate_laws.ensures.carried c.source_laws.ensures.told s t
     (solve_range c.request_laws.ensures c.args.words.now s tells.asks).terms tells _ _ (put_at g c written)
 
 pub returns-clause-serves : goal.returns-clause-serves

@@ -1,6 +1,7 @@
 -- The ground problem of the texts, what a search of it answers, and what is written.
 use Rattle.std.proofs.Common.{rules}
 use Rattle.plan_request.specs.Shown.{shown_solving}
+use Rattle.plan_search.specs.Under.{with_report}
 use Rattle.plan_app.proofs.Flow.{solve_stops, search_stops, wrote, under_name, leaves, nothing_written, calls_alone, calls_behind}
 use Rattle.plan_app.proofs.Names.{given_names}
 use Rattle.plan_app.proofs.solving.solve.Goals as goal
@@ -50,9 +51,10 @@ returns-in_err-answer-clause-shelf g c =
 
 pub returns-clause-ends : goal.returns-clause-ends
 returns-clause-ends g c =
+    let a = c.in_ok-answer.answer in let told = c.in_ok-answer.ensures.answer in
     wrote g.S.Shelf.held g.S.Shelf.read_faults g.S.Shelf.write_faults c.args.shelf.now (shown_solving c.args.solving.now)
     c.in_ok-problem.problem c.in_ok-problem.ensures.ends c.problem_of.new.shelf c.write.new.shelf c.problem_of.ensures.shelf.held_same
-    c.in_ok-answer.answer c.in_ok-answer.ensures.answer c.write.result c.problem_of.ensures.shelf.no_write_fault
+    (with_report a told.plain) told.is_answer a.report told c.write.result c.problem_of.ensures.shelf.no_write_fault
     c.write.ensures.report c.write.ensures.written c.write.ensures.stops
 
 pub returns-clause-calls : goal.returns-clause-calls
@@ -62,10 +64,11 @@ returns-clause-calls g c =
 
 pub returns-clause-shelf : goal.returns-clause-shelf
 returns-clause-shelf g c =
+    let a = c.in_ok-answer.answer in let told = c.in_ok-answer.ensures.answer in
     leaves g.S.Shelf.held g.S.Shelf.read_faults g.S.Shelf.write_faults c.args.shelf.now (shown_solving c.args.solving.now)
     c.in_ok-problem.problem c.in_ok-problem.ensures.ends c.problem_of.new.shelf c.write.new.shelf c.problem_of.ensures.shelf.held_same
-    c.in_ok-answer.answer c.in_ok-answer.ensures.answer c.problem_of.ensures.shelf
+    (with_report a told.plain) told.is_answer c.problem_of.ensures.shelf
     (under_name g.S.Shelf.held g.S.Shelf.read_faults g.S.Shelf.write_faults c.args.shelf.now (shown_solving c.args.solving.now)
     c.in_ok-problem.problem c.in_ok-problem.ensures.ends c.problem_of.new.shelf c.write.new.shelf c.problem_of.ensures.shelf.held_same
-    c.in_ok-answer.answer c.in_ok-answer.ensures.answer c.write.result c.write.ensures.written c.write.ensures.stops c.write.ensures.memory)
+    (with_report a told.plain) told.is_answer c.write.result c.write.ensures.written c.write.ensures.stops c.write.ensures.memory)
     c.write.ensures.others c.write.ensures.reads c.write.ensures.once
