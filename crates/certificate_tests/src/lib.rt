@@ -1,8 +1,10 @@
-//! Tests of reading, writing and checking certificates, as tables. Nothing stands on them.
+//! Tests of reading, writing, checking and merging certificates, as tables. Nothing stands on them.
 #![tactic(auto)]
 
 #[cfg(test)]
 mod certificate_text;
+#[cfg(test)]
+mod merged;
 #[cfg(test)]
 mod refusal;
 #[cfg(test)]

@@ -1,0 +1,13 @@
+pub mod Claiming
+pub mod Form
+pub mod Grounded
+pub mod Interval
+pub mod Joined
+pub mod Members
+pub mod MergedRows
+pub mod Narrower
+pub mod Placed
+pub mod Taken
+pub mod Theorem
+pub mod Together
+pub mod NextRow

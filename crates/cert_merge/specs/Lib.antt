@@ -1,0 +1,9 @@
+pub mod Narrower
+pub mod Merged
+pub mod Grounded
+pub mod Laws
+pub mod Claims
+pub mod Drafts
+pub mod Pairs
+pub mod Placing
+pub mod Tables
