@@ -1,5 +1,6 @@
 pub mod Meaning
 pub mod Draws
+pub mod Endings
 pub mod Runs
 pub mod Paths
 pub mod Turns

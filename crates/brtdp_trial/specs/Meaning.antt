@@ -3,6 +3,8 @@
 --     width s, spread s        upper less lower number of a step; weight times width
 --     weights_of, spreads      of several steps
 --     IsInterval s             the lower number is at most the upper one, and that at most 10^14
+--     is_new s                 the lower number is 0 and the upper one is not: no backup of the state that the step leads to has
+--                              raised the lower number yet
 --     HasId s                  the step leads to a state that has an id
 --     UnplacedOnlyWhere p s    that state has none only where p holds
 --     LeadsToKnown knows s     the id that the step leads to, if any, is known
@@ -11,7 +13,8 @@
 --     AreChoices l             the choices have intervals and positive weights, which sum to the denominator
 --     Told S                   numbers told beforehand by bounds of type S: whether they tell them, the starts, what a
 --                              backup of an id answers, and the bounds after it
-use Rattle.std.specs.Prelude.{◌≡◌, ℕ, ◌-◌, ◌*◌, ◌^◌, ◌<◌, ◌≤◌, Bool, Some, None, List, length, sum, map, All}
+use Rattle.std.specs.Prelude.{◌≡◌, ℕ, ◌-◌, ◌*◌, ◌^◌, ◌<◌, ◌≤◌, ◌==◌, nat_lt, Bool, ◌&&◌}
+use Rattle.std.specs.Prelude.{Some, None, List, length, sum, map, All}
 use Rattle.brtdp_trial.specs.declared.step.Step.{Step}
 use Rattle.brtdp_trial.specs.declared.step.Backed.{Backed}
 
@@ -30,6 +33,9 @@ weights_of = map (λ s. s.weight)
 pub record IsInterval (s : Step) : Type 0 where
   pub ordered : s.lower ≤ s.upper
   pub bounded : s.upper ≤ 10 ^ 14
+
+abbrev pub is_new : Step → Bool
+is_new s = (s.lower == 0) && nat_lt 0 s.upper
 
 abbrev pub HasId : Step → Type 0
 HasId s = (id : ℕ) × (s.id ≡ Some id)

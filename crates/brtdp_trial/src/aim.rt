@@ -1,5 +1,7 @@
 //! What a trial is measured by.
 
+use crate::ending::Ends;
+
 /// What a trial is measured by, once a start is drawn.
 #[derive(Clone, Copy, Debug, PartialEq, Eq)]
 pub struct Aim {
@@ -9,4 +11,6 @@ pub struct Aim {
     pub tau: u32,
     /// The greatest number of turns.
     pub depth: u32,
+    /// Where a trial ends, if it comes to no end before.
+    pub ends: Ends,
 }

@@ -8,9 +8,10 @@ use rand_core::SeedableRng;
 use rand_core::utils::NextWord;
 use std::marker::Model;
 
-/// The draws of one trial. Contracts see the seed, the trial's number and the number of the next draw.
+/// The draws of one trial, or of whatever else is drawn by its number. Contracts see the seed, the number and the
+/// number of the next draw.
 #[derive(Drop)]
-pub(crate) struct Draws {
+pub struct Draws {
     rng: ChaCha8Rng,
     seed: u64,
     number: u64,
@@ -29,8 +30,8 @@ impl Model for Draws {
 }
 
 impl Draws {
-    /// The draws of the trial with this number.
-    pub(crate) fn new(seed: u64, number: u64) -> Self
+    /// The draws of the trial with this number: the seed is the key of the stream, and the number its stream.
+    pub fn new(seed: u64, number: u64) -> Self
         ensures { result ≡ record { seed = seed; number = number; next = 0 } }
     {
         let mut rng = ChaCha8Rng::from_seed(key_of_seed(seed));
@@ -43,8 +44,8 @@ impl Draws {
         }
     }
 
-    /// The next draw.
-    pub(crate) fn draw(&mut self) -> u128
+    /// The next draw: four words of the stream as one number below 2^128, the first most significant.
+    pub fn draw(&mut self) -> u128
         requires { self.old.next < 2 ^ 33 }
         ensures value { result ≡ draw_of self.old.seed self.old.number self.old.next }
         ensures next { self.new ≡ record self.old { next = self.old.next + 1 } }

@@ -9,6 +9,8 @@ pub enum TrialEnd {
     Narrow,
     /// At the greatest number of turns.
     Depth,
+    /// At a state that was new when it was drawn, behind its backup.
+    New,
     /// Before a state that has no id.
     Unplaced,
 }
@@ -27,6 +29,11 @@ pub struct Trial {
 pub enum Onward {
     /// The trial ends.
     Ends(TrialEnd),
-    /// It goes on at the state of this id.
-    Goes(u32),
+    /// It goes on at a state.
+    Goes {
+        /// The id of the state.
+        id: u32,
+        /// Whether it was new when it was drawn.
+        new: bool,
+    },
 }

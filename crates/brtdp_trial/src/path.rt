@@ -5,6 +5,7 @@ ghost use Rattle.std.specs.List.{slice_get};
 ghost use Rattle.brtdp_trial.specs.Runs.{next_run};
 ghost use Rattle.brtdp_trial.specs.Paths.{new_path};
 
+use crate::ending::Ends;
 use crate::run::{Run, run_with};
 use crate::start_draw::StartDraw;
 use crate::turn::Turn;
@@ -97,14 +98,14 @@ impl Path {
     }
 
     /// Begins a trial: it has no turn yet.
-    pub(crate) fn begin(&mut self, number: u64, seed: u64, tau: u32)
+    pub(crate) fn begin(&mut self, number: u64, seed: u64, tau: u32, ends: Ends)
         ensures turns { self.new.turns ≡ [] }
-        ensures run { self.new.run ≡ Some (next_run self.old.run number seed tau) }
+        ensures run { self.new.run ≡ Some (next_run self.old.run number seed tau ends) }
         ensures room { self.new.room ≡ self.old.room }
     {
         self.pushed = 0;
         self.start_draw = StartDraw::NONE;
-        self.run_ended = Some(run_with(self.run_ended, number, seed, tau));
+        self.run_ended = Some(run_with(self.run_ended, number, seed, tau, ends));
     }
 
     /// Notes the draw of the start.

@@ -1,7 +1,7 @@
 //! What a trial reads of a start or of a choice, and what a backup answers.
 
 ghost use Rattle.std.specs.Prelude.{◌≡◌};
-ghost use Rattle.brtdp_trial.specs.Meaning.{spread, width, IsInterval};
+ghost use Rattle.brtdp_trial.specs.Meaning.{is_new, spread, width, IsInterval};
 
 /// The code by which a backup answers that giving up is best.
 pub const GIVE_UP: u16 = 65_535;
@@ -52,6 +52,13 @@ impl Step {
         ensures { result ≡ width self.now }
     {
         self.upper - self.lower
+    }
+
+    /// Whether the state that it leads to is new: nothing has raised its lower number from 0 yet.
+    pub(crate) fn is_new(&self) -> bool
+        ensures { result ≡ is_new self.now }
+    {
+        self.lower == 0 && 0 < self.upper
     }
 
     /// Weight times width: by this a step is drawn.

@@ -1,6 +1,6 @@
 //! One trial.
 
-ghost use Rattle.std.specs.Prelude.{◌≡◌, ◌<◌, ◌≤◌, ◌^◌, true, Some, [], length, reverse, sum, All};
+ghost use Rattle.std.specs.Prelude.{◌≡◌, ◌<◌, ◌≤◌, ◌^◌, true, false, Some, [], length, reverse, sum, All};
 ghost use Rattle.brtdp_trial.specs.Meaning.{IsInterval, HasId, LeadsToKnown, weights_of};
 ghost use Rattle.brtdp_trial.specs.Draws.{draw_of, draws_of};
 ghost use Rattle.brtdp_trial.specs.Runs.{next_run};
@@ -13,6 +13,7 @@ ghost use Rattle.brtdp_trial.specs.declared.ends.TrialEnd.TheVariants as The;
 use crate::aim::Aim;
 use crate::bounds::Bounds;
 use crate::draws::Draws;
+use crate::ending::Ends;
 use crate::ends::{Onward, Trial, TrialEnd};
 use crate::path::Path;
 use crate::start_draw::{StartDraw, StartDrawn};
@@ -23,35 +24,36 @@ use crate::turns::{onward_at, take_turn};
 /// Makes the trial of this number over the bounds, and shows it in the path.
 ///
 /// A start is drawn by weight times width. Then each turn backs up a state and draws one of the choices of the
-/// answered action, again by weight times width, until the trial ends. The states of the turns are then
-/// backed up again in reverse order. It ends before a state without an id only where it was found meanwhile that a
-/// state gets none. It takes no memory.
+/// answered action, again by weight times width, until the trial ends: with `Ends::New` at the first state that was
+/// new when it was drawn, too. The states of the turns are then backed up again in reverse order. It ends before a
+/// state without an id only where it was found meanwhile that a state gets none. It takes no memory.
 pub fn trial<B: Bounds>(
     bounds: &mut B,
     number: u64,
     seed: u64,
     depth: u32,
     tau: u32,
+    ends: Ends,
     path: &mut Path,
 ) -> Trial
     requires room { path.old.room ≡ depth }
     requires deep { 1 ≤ depth }
     ensures later { B.later bounds.old bounds.new }
-    ensures run { path.new.run ≡ Some (next_run path.old.run number seed tau) }
+    ensures run { path.new.run ≡ Some (next_run path.old.run number seed tau ends) }
     ensures room { path.new.room ≡ path.old.room }
     ensures length { result.length ≡ length path.new.turns }
     ensures few { result.length ≤ depth }
     ensures known { All (λ t. B.knows bounds.new t.id) path.new.turns }
     ensures trial { let Is = IsTrial B.later B.full B.weights B.last B.told
-        in Is (draw_of seed number) tau depth bounds.old path.new result.end bounds.new }
+        in Is (draw_of seed number) tau depth ends bounds.old path.new result.end bounds.new }
     ensures unplaced { result.end ≡ The.Unplaced → B.full bounds.old bounds.new }
 {
-    path.begin(number, seed, tau);
+    path.begin(number, seed, tau, ends);
     let mut draws = Draws::new(seed, number);
     let starts = read_starts(bounds);
     let start = draw_start(&starts, &mut draws);
     path.note_start(start);
-    let end = from_start(bounds, &mut draws, &starts, start, tau, depth, path);
+    let end = from_start(bounds, &mut draws, &starts, start, tau, depth, ends, path);
     back(bounds, path);
     Trial {
         end,
@@ -112,6 +114,7 @@ fn from_start<B: Bounds>(
     start: StartDraw,
     tau: u32,
     depth: u32,
+    ends: Ends,
     path: &mut Path,
 ) -> TrialEnd
     requires draw { IsStartDraw (draw_of draws.old.seed draws.old.number 0) starts.now start }
@@ -126,7 +129,7 @@ fn from_start<B: Bounds>(
     ensures same { path.new ≡ record path.old { turns = path.new.turns } }
     ensures known { All (λ t. B.knows bounds.new t.id) path.new.turns }
     ensures turns { let From = FromStart B.later B.full B.last B.told (draws_of draws.old)
-        in From tau depth start.drawn starts.now path.new.turns bounds.old result bounds.new }
+        in From tau depth ends start.drawn starts.now path.new.turns bounds.old result bounds.new }
 {
     let Some(drawn) = start.drawn else {
         return TrialEnd::Narrow;
@@ -134,8 +137,13 @@ fn from_start<B: Bounds>(
     match starts.get(drawn.index).id {
         None => TrialEnd::Unplaced,
         Some(id) => {
-            let gap = drawn.gap;
-            walk(bounds, draws, id, Aim { gap, tau, depth }, path)
+            let aim = Aim {
+                gap: drawn.gap,
+                tau,
+                depth,
+                ends,
+            };
+            walk(bounds, draws, id, aim, path)
         }
     }
 }
@@ -158,17 +166,24 @@ fn walk<B: Bounds>(
     ensures same { path.new ≡ record path.old { turns = path.new.turns } }
     ensures known { All (λ t. B.knows bounds.new t.id) path.new.turns }
     ensures turns { let Are = AreTurns B.later B.full B.last B.told (draws_of draws.old) aim
-        in Are path.new.turns 0 first bounds.old result bounds.new }
+        in Are path.new.turns 0 first false bounds.old result bounds.new }
 {
     let mut id = first;
+    let mut new = false;
     let mut pushed = 0;
     loop {
         pushed += 1;
-        let turn = take_turn(bounds, draws, aim, pushed, id);
+        let turn = take_turn(bounds, draws, aim, pushed, id, new);
         path.push(turn);
-        match onward_at(aim, pushed, &turn) {
+        match onward_at(aim, pushed, new, &turn) {
             Onward::Ends(end) => return end,
-            Onward::Goes(next) => id = next,
+            Onward::Goes {
+                id: next,
+                new: is_new,
+            } => {
+                id = next;
+                new = is_new;
+            }
         }
     }
 }

@@ -24,4 +24,6 @@ pub struct Drawn {
     pub index: u32,
     /// The id of the state that it leads to, if that has one.
     pub id: Option<u32>,
+    /// Whether that state was new when the choice was read: nothing had raised its lower number from 0 yet.
+    pub new: bool,
 }

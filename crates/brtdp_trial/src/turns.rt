@@ -1,6 +1,6 @@
 //! The turns of a trial.
 
-ghost use Rattle.std.specs.Prelude.{◌≡◌, ◌+◌, ◌<◌, ◌≤◌, ◌^◌, ℕ, length, sum, All};
+ghost use Rattle.std.specs.Prelude.{◌≡◌, ◌+◌, ◌<◌, ◌≤◌, ◌^◌, ℕ, Bool, length, sum, All};
 ghost use Rattle.brtdp_trial.specs.Meaning.{IsInterval, spreads, weights_of};
 ghost use Rattle.brtdp_trial.specs.Draws.{draw_of};
 ghost use Rattle.brtdp_trial.specs.Turns.{IsDrawn, IsTurn, is_narrow as is_narrow_of, onward, stop_at};
@@ -25,16 +25,26 @@ fn is_narrow(aim: Aim, den: u64, total: u128) -> bool
 }
 
 /// How a trial ends before a choice is drawn, if it does.
-fn stop_before(aim: Aim, number: u32, code: u16, den: u64, total: u128) -> Option<TrialEnd>
+fn stop_before(
+    aim: Aim,
+    number: u32,
+    new: bool,
+    code: u16,
+    den: u64,
+    total: u128,
+) -> Option<TrialEnd>
     requires width { aim.gap ≤ 10 ^ 14 }
     requires den { den ≤ 10 ^ 18 }
-    ensures { result ≡ stop_at aim number code den total }
+    ensures { result ≡ stop_at aim number new code den total }
 {
     if code == GIVE_UP {
         return Some(TrialEnd::Dead);
     }
     if is_narrow(aim, den, total) {
         return Some(TrialEnd::Narrow);
+    }
+    if new && aim.ends.stops_at_new() {
+        return Some(TrialEnd::New);
     }
     if number == aim.depth {
         return Some(TrialEnd::Depth);
@@ -43,18 +53,20 @@ fn stop_before(aim: Aim, number: u32, code: u16, den: u64, total: u128) -> Optio
 }
 
 /// What follows a turn.
-pub(crate) fn onward_at(aim: Aim, number: u32, turn: &Turn) -> Onward
+pub(crate) fn onward_at(aim: Aim, number: u32, new: bool, turn: &Turn) -> Onward
     requires width { aim.gap ≤ 10 ^ 14 }
     requires den { turn.now.den ≤ 10 ^ 18 }
-    ensures { result ≡ onward aim number turn.now }
+    ensures { result ≡ onward aim number new turn.now }
 {
-    if let Some(end) = stop_before(aim, number, turn.code, turn.den, turn.total) {
+    if let Some(end) = stop_before(aim, number, new, turn.code, turn.den, turn.total) {
         return Onward::Ends(end);
     }
-    match turn.drawn {
-        None => Onward::Ends(TrialEnd::Depth),
-        Some(Drawn { id: None, .. }) => Onward::Ends(TrialEnd::Unplaced),
-        Some(Drawn { id: Some(id), .. }) => Onward::Goes(id),
+    let Some(drawn) = turn.drawn else {
+        return Onward::Ends(TrialEnd::Depth);
+    };
+    match drawn.id {
+        None => Onward::Ends(TrialEnd::Unplaced),
+        Some(id) => Onward::Goes { id, new: drawn.new },
     }
 }
 
@@ -77,6 +89,7 @@ fn draw_choice<B: Bounds>(bounds: &B, draws: &mut Draws, total: u128) -> Drawn
         rest,
         index,
         id: step.id,
+        new: step.is_new(),
     }
 }
 
@@ -87,6 +100,7 @@ pub(crate) fn take_turn<B: Bounds>(
     aim: Aim,
     number: u32,
     id: u32,
+    new: bool,
 ) -> Turn
     requires known { B.knows bounds.old id }
     requires width { aim.gap ≤ 10 ^ 14 }
@@ -94,16 +108,16 @@ pub(crate) fn take_turn<B: Bounds>(
     ensures later { B.later bounds.old bounds.new }
     ensures id { result.id ≡ id }
     ensures turn { let draw = draw_of draws.old.seed draws.old.number
-        in IsTurn B.later B.full B.last B.told draw aim number bounds.old bounds.new result }
-    ensures draws { (next : ℕ) → onward aim number result ≡ The.Goes next
+        in IsTurn B.later B.full B.last B.told draw aim number new bounds.old bounds.new result }
+    ensures draws { (next : ℕ) (is : Bool) → onward aim number new result ≡ The.Goes next is
         → draws.new ≡ record draws.old { next = draws.old.next + 1 } }
-    ensures next { (next : ℕ) → onward aim number result ≡ The.Goes next
+    ensures next { (next : ℕ) (is : Bool) → onward aim number new result ≡ The.Goes next is
         → B.knows bounds.new next }
     ensures den { result.den ≤ 10 ^ 18 }
 {
     let backed = bounds.backup(id);
     let total = total_of(&Choices { bounds }, backed.count);
-    let drawn = match stop_before(aim, number, backed.code, backed.den, total) {
+    let drawn = match stop_before(aim, number, new, backed.code, backed.den, total) {
         Some(_) => None,
         None => Some(draw_choice(bounds, draws, total)),
     };

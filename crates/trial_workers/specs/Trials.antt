@@ -4,9 +4,9 @@
 --     weights r, last r          the weights of the starts; what the last backup answered
 --     untold                     no number is told beforehand, since others narrow the bounds meanwhile
 --     IsSeededTrial b e number v p
---                                the path shows a trial of this number over the words b, with the seed, tau and depth of the effort, and v
---                                has noted all that its bounds have. The trial ended before a state without an id only where a look
---                                meanwhile has found the table full
+--                                the path shows a trial of this number over the words b, with the seed, tau, depth and ends of the effort,
+--                                and v has noted all that its bounds have. The trial ended before a state without an id only where a
+--                                look meanwhile has found the table full
 use Rattle.std.specs.Prelude.{◌≡◌, ℕ, false, List, [], map}
 use Rattle.ground_model.specs.declared.start.Start.{Start}
 use Rattle.word_table.specs.declared.view.View.{View}
@@ -50,5 +50,5 @@ pub record IsSeededTrial (b : Board) (e : Effort) (number : ℕ) (v : View) (p :
   pub over : from.words.now ≡ b
   pub noted : HasMore to.pass.view v
   pub end : TrialEnd
-  pub is : IsTrial later full weights last untold (draw_of e.seed number) e.tau e.depth from p end to
+  pub is : IsTrial later full weights last untold (draw_of e.seed number) e.tau e.depth e.ends from p end to
   pub unplaced : end ≡ Unplaced → full from to

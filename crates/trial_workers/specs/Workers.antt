@@ -13,7 +13,7 @@
 --     IsWorkerOf b depth w       a worker over these words, for trials of so many turns
 --     ShowsTrials b e first past w
 --                                its path ends a run that contains the trials from first up to below past and ends with the last of them,
---                                with the seed and the tau of the effort; it shows that one, and the worker has noted what its bounds
+--                                with the seed, the tau and the ends of the effort; it shows that one, and the worker has noted what its bounds
 --                                have, and knows the ids of its turns
 --     CanTry, CanTakePart        it knows the starts, and the ids that it is to back up
 --     HasTried, HasTakenPart     what it has done
@@ -74,6 +74,7 @@ pub record IsRunOf (e : Effort) (first past : ℕ) (r : Run) : Type 0 where
   pub last_is : r.last + 1 ≡ past
   pub seed : r.seed ≡ e.seed
   pub tau : r.tau ≡ e.tau
+  pub ends : r.ends ≡ e.ends
 
 pub record ShowsTrials (b : Board) (e : Effort) (first past : ℕ) (w : Worker) : Type 0 where
   pub run : Run

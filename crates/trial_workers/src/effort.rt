@@ -1,5 +1,7 @@
 //! How long is solved.
 
+use brtdp_trial::Ends;
+
 /// How long rounds are made, and which trials.
 #[derive(Clone, Copy, Debug, PartialEq, Eq)]
 pub struct Effort {
@@ -15,6 +17,8 @@ pub struct Effort {
     pub tau: u32,
     /// The seed of the trials.
     pub seed: u64,
+    /// Where the trials end.
+    pub ends: Ends,
 }
 
 /// How many rounds were made, and the means of the starts' bounds as they were read behind the last one.

@@ -31,7 +31,7 @@ fn race<'p>(
     ensures scratch { IsScratchOf words.now result }
     ensures room { path.new.room ≡ path.old.room }
     ensures run { let e = effort.now
-        in path.new.run ≡ Some (next_run path.old.run number e.seed e.tau) }
+        in path.new.run ≡ Some (next_run path.old.run number e.seed e.tau e.ends) }
     ensures trial { IsSeededTrial words.now effort.now number pass.new.view path.new }
     ensures known { HasTurnsKnown pass.new.view path.new }
 {
@@ -45,6 +45,7 @@ fn race<'p>(
         effort.seed,
         effort.depth,
         effort.tau,
+        effort.ends,
         path,
     );
     let Racing {

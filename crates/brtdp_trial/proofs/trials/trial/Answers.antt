@@ -22,7 +22,7 @@ returns-clause-trial g c =
     (subst (λ n. Opens c.args.seed n c.draw_start-start.result) number_is
     (subst (λ s. Opens s c.new-draws.result.number c.draw_start-start.result) seed_is c.draw_start-start.ensures.draw)) in
     let Turns : ℕ → ℕ → Option StartDrawn → Type 0 = λ s n d.
-    FromStart g.B.Bounds.later g.B.Bounds.full g.B.Bounds.last g.B.Bounds.told (draw_of s n) c.args.tau c.args.depth d c.read_starts-starts.result
+    FromStart g.B.Bounds.later g.B.Bounds.full g.B.Bounds.last g.B.Bounds.told (draw_of s n) c.args.tau c.args.depth c.args.ends d c.read_starts-starts.result
     c.from_start-end.new.path.turns c.read_starts-starts.new.bounds c.from_start-end.result c.from_start-end.new.bounds in
     let turned : Turns c.args.seed c.args.number c.from_start-end.new.path.start.drawn =
     subst (λ d. Turns c.args.seed c.args.number d) (sym (ap (λ (d : StartDraw). d.drawn) start_is))
@@ -46,6 +46,6 @@ returns-clause-unplaced g c = λ ends.
     let read = c.read_starts-starts.new.bounds in let walked = c.from_start-end.new.bounds in
     m.full_stays c.args.bounds.now read walked c.back.new.bounds c.read_starts-starts.ensures.later
     (start_is_full g.B.Bounds.later g.B.Bounds.full g.B.Bounds.last g.B.Bounds.told (draws_of c.draw_start-start.new.draws) m.refl m.full_stays
-    c.args.tau c.args.depth c.draw_start-start.result.drawn c.read_starts-starts.result c.from_start-end.new.path.turns read c.from_start-end.result walked
+    c.args.tau c.args.depth c.args.ends c.draw_start-start.result.drawn c.read_starts-starts.result c.from_start-end.new.path.turns read c.from_start-end.result walked
     c.from_start-end.ensures.turns ends)
     c.back.ensures.later
