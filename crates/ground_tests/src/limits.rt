@@ -157,7 +157,7 @@ fn reached(rt: HostRuntime) -> Result<(), Fail> {
 fn passed(rt: HostRuntime) -> Result<(), Fail> {
     let larger_goal = "(:goal (and (forall (?x) ()) (forall (?x ?y - a ?z - b) ()) ()))";
     let each_atom = ":effect (forall (?x) (and (q ?x) (r ?x)))";
-    let rows: [Row<'_>; 20] = [
+    let rows: [Row<'_>; 22] = [
         // Objects come before instances, also where steps may cost nothing.
         (
             (1_001, 0),
@@ -255,6 +255,20 @@ fn passed(rt: HostRuntime) -> Result<(), Fail> {
         ),
         ((600, 0), each_atom, "(:goal CUBE)", Err(GroundSize)),
         ((70, 197), SQUARE, larger_goal, Err(GroundSize)),
+        // Of 15,625,000 atoms, or of 3,375,000 where each action has draws, no more than the limit and one
+        // are listed.
+        (
+            (250, 0),
+            ":parameters (?x) :effect (forall (?u ?v) (s ?x ?u ?v))",
+            GOAL,
+            Err(Atoms),
+        ),
+        (
+            (150, 0),
+            ":parameters (?x) :effect (and HALF (forall (?u ?v) (s ?x ?u ?v)))",
+            GOAL,
+            Err(Atoms),
+        ),
         // Atoms, of which there are nine more, come before initial states, and of these the
         // denominator before the number.
         (

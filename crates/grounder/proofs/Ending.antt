@@ -1,5 +1,5 @@
 -- The limits of atoms and of initial states.
-use Rattle.std.proofs.Common.{◌≡◌, ℕ, ◌+◌, ◌≤◌, length, refl, ap, subst, ◌∙◌, arith}
+use Rattle.std.proofs.Common.{◌≡◌, ℕ, ◌+◌, ◌<◌, ◌≤◌, length, refl, sym, ap, subst, ◌∙◌, arith}
 use Rattle.std.specs.Prelude.{Result, Ok, Err}
 use Rattle.plain_list.specs.Results.{◌>>=◌}
 use Rattle.plain_list.proofs.Results.{bind_assoc}
@@ -17,6 +17,7 @@ use Rattle.ground_meaning.specs.refusals.Codes.{most_of}
 use Rattle.ground_meaning.specs.refusals.Limits.{within, instances_within}
 use Rattle.ground_meaning.specs.refusals.Starts.{Starts, starts_den, widest_start, starts_of}
 use Rattle.grounder.specs.limits.Laws.{later_limits}
+use Rattle.grounder.proofs.lemmas.actions.Tests.{fails}
 use Rattle.grounder.proofs.lemmas.limits.Counting.{passes}
 use Rattle.grounder.specs.declared.starts.states.InitialStates.{InitialStates}
 use Rattle.grounder.specs.starts.Answers as starts
@@ -79,3 +80,10 @@ pub later_is : (task : Task) (charges : Charges) (tested : ℕ) → (sized task 
 later_is task charges tested =
     bind_assoc (instances_within task charges 0 tested (kept_instances task))
     (λ size. within (size + condition_size (world task) task.problem.goal) limit.GroundSize) (λ _. ended task)
+
+-- more atoms than there may be, where all limits before that on them are kept
+pub atoms_over : (task : Task) (charges : Charges) (tested : ℕ) → sized task charges tested ≡ Ok tt → most_of limit.Atoms < length (numbering_of task).atoms
+    → later_limits task charges tested ≡ Err limit.Atoms
+atoms_over task charges tested sure above =
+    sym (later_is task charges tested) ∙ ap (λ r. r >>= λ _. ended task) sure
+    ∙ ap (λ r. r >>= λ _. start_limits task) (fails (length (numbering_of task).atoms) limit.Atoms above)

@@ -1,9 +1,10 @@
 //! The parts of the ground problem of a task, within the limits.
 
-ghost use Rattle.std.specs.Prelude.{◌≡◌, Ok, length};
+ghost use Rattle.std.specs.Prelude.{◌≡◌, true, Ok, length};
 ghost use Rattle.std.specs.List.{AllZip};
 ghost use Rattle.ppddl_model.specs.Steps.{Charges, base_cost};
 ghost use Rattle.ppddl_model.specs.WellFormed.{IsWellFormed};
+ghost use Rattle.ground_model.specs.declared.limits.TheConstants.{MOST_ATOMS};
 ghost use Rattle.ground_meaning.specs.refusals.Atoms.{numbering_of};
 ghost use Rattle.ground_meaning.specs.refusals.Limits.{limits};
 ghost use Rattle.task_instances.specs.kept_rows.Kept.{AreKept};
@@ -18,7 +19,7 @@ use crate::changing_atoms::{changing_texts, kept_of_actions};
 use crate::depth::is_deep;
 use crate::limits::{early_limits, limit_laws};
 use crate::names::{Names, names_of};
-use crate::outset::sizes_within;
+use crate::outset::{are_surely_within, sizes_within};
 use crate::sizing::sized_actions;
 use crate::starts::{InitialStates, ground_starts};
 use ground_meaning::{GroundRefusal, LimitCode};
@@ -108,6 +109,16 @@ fn named_parts(
     }
 }
 
+/// How many atoms are listed at most: no more than there may be, if it is sure that no other limit comes first.
+fn most_wanted(is_sure: bool) -> usize
+    ensures { is_sure ≡ true → result ≡ MOST_ATOMS }
+{
+    if is_sure {
+        return MOST_ATOMS;
+    }
+    usize::MAX
+}
+
 /// The parts of the ground problem, where the kept instances and the size of the tried preconditions are known.
 fn kept_parts(
     alloc: Global,
@@ -125,11 +136,21 @@ fn kept_parts(
     if let Err(code) = sizes_within(facts, kept, base, tested) {
         return Err(GroundRefusal::Limit(code));
     }
-    let atoms = changing_texts(alloc, facts, kept)?;
-    let names = names_of(alloc, facts, atoms.as_slice())?;
-    let parts = named_parts(alloc, facts, &names, kept, atoms, base, tested);
-    drop(names);
-    parts
+    let is_sure = are_surely_within(facts, kept, base, tested);
+    match changing_texts(alloc, facts, kept, most_wanted(is_sure))? {
+        Some(atoms) => {
+            let names = names_of(alloc, facts, atoms.as_slice())?;
+            let parts = named_parts(alloc, facts, &names, kept, atoms, base, tested);
+            drop(names);
+            parts
+        }
+        None => {
+            if is_sure {
+                return Err(GroundRefusal::Limit(LimitCode::Atoms));
+            }
+            Err(GroundRefusal::Memory)
+        }
+    }
 }
 
 /// The parts of the ground problem, where the size of the tried preconditions is known.

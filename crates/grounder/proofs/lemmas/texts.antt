@@ -1,3 +1,4 @@
 pub mod Sorting
 pub mod Adding
 pub mod Hashed
+pub mod Wanting

@@ -1,11 +1,11 @@
 //! The changing atoms of a task.
 
-ghost use Rattle.std.specs.Prelude.{◌≡◌, length, flat_map, IfOk, OnOk};
+ghost use Rattle.std.specs.Prelude.{◌≡◌, length, flat_map, IfOk};
 ghost use Rattle.std.specs.List.{AllZip, list_all};
 ghost use Rattle.task_instances.specs.facts.Facts.{table_of};
 ghost use Rattle.task_instances.specs.kept_rows.Kept.{IsRow, AreKept};
 ghost use Rattle.task_instances.specs.quantified_atoms.Quantified.{is_settled};
-ghost use Rattle.grounder.specs.texts.Texts.{with_texts};
+ghost use Rattle.grounder.specs.texts.Wanted.{IsPut, AreWithin};
 ghost use Rattle.ground_meaning.specs.refusals.Atoms.{numbering_of};
 ghost use Rattle.grounder.specs.changing_atoms.Atoms.{action_texts, row_texts};
 
@@ -27,10 +27,10 @@ fn add_row(
     action: &Action,
     atoms: &[QuantifiedAtom<'_>],
     row: &[u32],
-) -> Result<(), AllocError>
+) -> Result<bool, AllocError>
     requires { IsRow (table_of facts.now) (length action.now.params) row.now }
-    ensures { OnOk result (texts.new ≡ with_texts texts.old
-        (row_texts facts.now action.now atoms.now row.now)) }
+    ensures { IfOk result (λ all. IsPut texts.old
+        (row_texts facts.now action.now atoms.now row.now) all texts.new) }
 {
     let params = action.params.as_slice();
     add_under_row(alloc, facts, texts, atoms, params, row, &Scope::Empty)
@@ -56,18 +56,20 @@ fn add_rows(
     action: &Action,
     atoms: &[QuantifiedAtom<'_>],
     kept: &Rows,
-) -> Result<(), AllocError>
+) -> Result<bool, AllocError>
     requires { AreKept facts.now action.now kept.now }
-    ensures { OnOk result (texts.new ≡ with_texts texts.old
-        (flat_map (row_texts facts.now action.now atoms.now) kept.now.rows)) }
+    ensures { IfOk result (λ all. IsPut texts.old
+        (flat_map (row_texts facts.now action.now atoms.now) kept.now.rows) all texts.new) }
 {
     if are_settled(atoms) {
-        return Ok(());
+        return Ok(true);
     }
     for place in 0..kept.len() {
-        add_row(alloc, facts, texts, action, atoms, kept.row(place))?;
+        if !add_row(alloc, facts, texts, action, atoms, kept.row(place))? {
+            return Ok(false);
+        }
     }
-    Ok(())
+    Ok(true)
 }
 
 /// Puts in the texts of the literals of the kept instances of an action: those that name no parameter once.
@@ -77,17 +79,19 @@ fn add_action(
     texts: &mut TextSet,
     action: &Action,
     kept: &Rows,
-) -> Result<(), AllocError>
+) -> Result<bool, AllocError>
     requires { AreKept facts.now action.now kept.now }
-    ensures { OnOk result (texts.new
-        ≡ with_texts texts.old (action_texts facts.now action.now)) }
+    ensures { IfOk result
+        (λ all. IsPut texts.old (action_texts facts.now action.now) all texts.new) }
 {
     text_laws();
     if kept.len() == 0 {
-        return Ok(());
+        return Ok(true);
     }
     let atoms = atoms_of(alloc, facts, AtomKind::Literal, &action.effect)?;
-    add_first(alloc, facts, texts, atoms.as_slice())?;
+    if !add_first(alloc, facts, texts, atoms.as_slice())? {
+        return Ok(false);
+    }
     add_rows(alloc, facts, texts, action, atoms.as_slice(), kept)
 }
 
@@ -98,40 +102,43 @@ fn add_actions(
     texts: &mut TextSet,
     actions: &[Action],
     kept: &[Rows],
-) -> Result<(), AllocError>
+) -> Result<bool, AllocError>
     requires { AllZip (AreKept facts.now) actions.now kept.now }
-    ensures { OnOk result (texts.new
-        ≡ with_texts texts.old (flat_map (action_texts facts.now) actions.now)) }
+    ensures { IfOk result
+        (λ all. IsPut texts.old (flat_map (action_texts facts.now) actions.now) all texts.new) }
 {
     for (place, action) in actions.iter().enumerate() {
-        add_action(alloc, facts, texts, action, &kept[place])?;
+        if !add_action(alloc, facts, texts, action, &kept[place])? {
+            return Ok(false);
+        }
     }
-    Ok(())
+    Ok(true)
 }
 
 /// The texts of the changing atoms of a task in bytewise order, where its kept instances are given: the
-/// number of an atom is the place of its text. It is refused for want of memory alone, and so where there are
-/// more literals than the ground size of a task may be: its texts are not listed.
+/// number of an atom is the place of its text. None where there are more than `most`: no further ones are
+/// put in once that is seen. It is refused for want of memory alone, and so where there are more literals than
+/// the ground size of a task may be: its texts are not listed.
 pub fn changing_texts(
     alloc: Global,
     facts: &TaskFacts<'_>,
     kept: &[Rows],
-) -> Result<List<Text>, AllocError>
+    most: usize,
+) -> Result<Option<List<Text>>, AllocError>
     requires { AllZip (AreKept facts.now) facts.now.domain.actions kept.now }
-    ensures { IfOk result (λ texts. texts ≡ (numbering_of facts.now).atoms) }
+    ensures { IfOk result (AreWithin most (numbering_of facts.now).atoms) }
 {
     let task = facts.task();
-    if are_too_many(alloc, facts, task.domain.actions.as_slice(), kept)? {
+    let actions = task.domain.actions.as_slice();
+    if are_too_many(alloc, facts, actions, kept)? {
         return Err(AllocError);
     }
-    let mut texts = TextSet::new(alloc);
-    add_actions(
-        alloc,
-        facts,
-        &mut texts,
-        task.domain.actions.as_slice(),
-        kept,
-    )?;
-    add_chances(alloc, &mut texts, task.problem.init.as_slice())?;
-    texts_of_set(alloc, texts)
+    let mut texts = TextSet::new(alloc, most);
+    if !add_actions(alloc, facts, &mut texts, actions, kept)? {
+        return Ok(None);
+    }
+    if !add_chances(alloc, &mut texts, task.problem.init.as_slice())? {
+        return Ok(None);
+    }
+    Ok(Some(texts_of_set(alloc, texts)?))
 }

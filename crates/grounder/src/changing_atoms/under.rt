@@ -1,11 +1,12 @@
 //! The literals of one kept instance.
 
-ghost use Rattle.std.specs.Prelude.{◌≡◌, ◌<◌, length, flat_map, All, OnOk};
+ghost use Rattle.std.specs.Prelude.{◌≡◌, ◌<◌, length, flat_map, All, IfOk};
 ghost use Rattle.ppddl_model.specs.Steps.{world};
 ghost use Rattle.ground_terms.specs.terms.Scopes.{binding_of};
 ghost use Rattle.task_instances.specs.facts.Facts.{table_of};
 ghost use Rattle.task_instances.specs.kept_rows.Kept.{bound_to};
-ghost use Rattle.grounder.specs.texts.Texts.{with_texts, under_texts};
+ghost use Rattle.grounder.specs.texts.Texts.{under_texts};
+ghost use Rattle.grounder.specs.texts.Wanted.{IsPut};
 
 use crate::texts::{TextSet, add_under};
 use ground_terms::Scope;
@@ -23,11 +24,11 @@ pub(super) fn add_under_row<'x>(
     params: &'x [Param],
     row: &[u32],
     scope: &'x Scope<'x>,
-) -> Result<(), AllocError>
+) -> Result<bool, AllocError>
     requires long { length row.now ≡ length params.now }
     requires within { All (λ o. o < length (table_of facts.now).objects) row.now }
-    ensures { OnOk result (texts.new ≡ with_texts texts.old (flat_map (under_texts (world facts.now)
-        (bound_to (table_of facts.now) params.now row.now (binding_of scope.now))) atoms.now)) }
+    ensures { IfOk result (λ all. IsPut texts.old (flat_map (under_texts (world facts.now) (bound_to
+        (table_of facts.now) params.now row.now (binding_of scope.now))) atoms.now) all texts.new) }
 {
     if params.is_empty() {
         return add_under(alloc, &*facts, texts, &*atoms, &*scope);

@@ -1,10 +1,11 @@
 //! The literals of effects.
 
-ghost use Rattle.std.specs.Prelude.{◌≡◌, flat_map, OnOk};
+ghost use Rattle.std.specs.Prelude.{flat_map, IfOk};
 ghost use Rattle.ppddl_model.specs.Steps.{world};
 ghost use Rattle.ground_terms.specs.terms.Scopes.{binding_of};
 ghost use Rattle.task_instances.specs.quantified_atoms.Needed.{params_of};
-ghost use Rattle.grounder.specs.texts.Texts.{with_texts, ground_texts, first_texts, under_texts};
+ghost use Rattle.grounder.specs.texts.Texts.{ground_texts, first_texts, under_texts};
+ghost use Rattle.grounder.specs.texts.Wanted.{IsPut};
 
 use crate::texts::text_set::TextSet;
 use ground_terms::{Scope, atom_text, objects_of};
@@ -21,14 +22,13 @@ fn add_ways<'x>(
     atom: &Atom,
     variables: &'x [&'x Param],
     scope: &'x Scope<'x>,
-) -> Result<(), AllocError>
-    ensures { OnOk result (texts.new ≡ with_texts texts.old
-        (ground_texts (world facts.now) atom.now (params_of variables.now) (binding_of scope.now))) }
+) -> Result<bool, AllocError>
+    ensures { IfOk result (λ all. IsPut texts.old (ground_texts (world facts.now) atom.now
+        (params_of variables.now) (binding_of scope.now)) all texts.new) }
 {
     if variables.is_empty() {
         let text = atom_text(alloc, scope, atom)?;
-        texts.insert(Text::from_vec(text))?;
-        return Ok(());
+        return texts.insert(Text::from_vec(text));
     }
     let first = variables[0];
     let objects = objects_of(alloc, (&*facts).table(), first)?;
@@ -38,16 +38,18 @@ fn add_ways<'x>(
             (&*facts).table().object_name(*object),
             &*scope,
         );
-        add_ways(
+        if !add_ways(
             alloc,
             &*facts,
             &mut *texts,
             &*atom,
             &variables[1..],
             &inside,
-        )?;
+        )? {
+            return Ok(false);
+        }
     }
-    Ok(())
+    Ok(true)
 }
 
 /// Puts in those of a quantified atom, if it names no parameter of an action.
@@ -56,12 +58,12 @@ fn add_one_first(
     facts: &TaskFacts<'_>,
     texts: &mut TextSet,
     quantified: &QuantifiedAtom<'_>,
-) -> Result<(), AllocError>
-    ensures { OnOk result (texts.new
-        ≡ with_texts texts.old (first_texts (world facts.now) quantified.now)) }
+) -> Result<bool, AllocError>
+    ensures { IfOk result
+        (λ all. IsPut texts.old (first_texts (world facts.now) quantified.now) all texts.new) }
 {
     if !is_settled(quantified) {
-        return Ok(());
+        return Ok(true);
     }
     add_ways(
         alloc,
@@ -80,12 +82,12 @@ fn add_one_under(
     texts: &mut TextSet,
     quantified: &QuantifiedAtom<'_>,
     scope: &Scope<'_>,
-) -> Result<(), AllocError>
-    ensures { OnOk result (texts.new ≡ with_texts texts.old
-        (under_texts (world facts.now) (binding_of scope.now) quantified.now)) }
+) -> Result<bool, AllocError>
+    ensures { IfOk result (λ all. IsPut texts.old
+        (under_texts (world facts.now) (binding_of scope.now) quantified.now) all texts.new) }
 {
     if is_settled(quantified) {
-        return Ok(());
+        return Ok(true);
     }
     add_ways(
         alloc,
@@ -104,14 +106,16 @@ pub fn add_first(
     facts: &TaskFacts<'_>,
     texts: &mut TextSet,
     atoms: &[QuantifiedAtom<'_>],
-) -> Result<(), AllocError>
-    ensures { OnOk result (texts.new
-        ≡ with_texts texts.old (flat_map (first_texts (world facts.now)) atoms.now)) }
+) -> Result<bool, AllocError>
+    ensures { IfOk result (λ all. IsPut texts.old
+        (flat_map (first_texts (world facts.now)) atoms.now) all texts.new) }
 {
     for quantified in atoms {
-        add_one_first(alloc, facts, texts, quantified)?;
+        if !add_one_first(alloc, facts, texts, quantified)? {
+            return Ok(false);
+        }
     }
-    Ok(())
+    Ok(true)
 }
 
 /// Puts in the texts of the atoms that name a parameter of an action, where the parameters stand for what
@@ -122,12 +126,14 @@ pub fn add_under(
     texts: &mut TextSet,
     atoms: &[QuantifiedAtom<'_>],
     scope: &Scope<'_>,
-) -> Result<(), AllocError>
-    ensures { OnOk result (texts.new ≡ with_texts texts.old
-        (flat_map (under_texts (world facts.now) (binding_of scope.now)) atoms.now)) }
+) -> Result<bool, AllocError>
+    ensures { IfOk result (λ all. IsPut texts.old
+        (flat_map (under_texts (world facts.now) (binding_of scope.now)) atoms.now) all texts.new) }
 {
     for quantified in atoms {
-        add_one_under(alloc, facts, texts, quantified, scope)?;
+        if !add_one_under(alloc, facts, texts, quantified, scope)? {
+            return Ok(false);
+        }
     }
-    Ok(())
+    Ok(true)
 }

@@ -10,7 +10,7 @@ use std::alloc::{AllocError, Global};
 
 /// The texts of a set, in bytewise order.
 pub fn texts_of_set(alloc: Global, set: TextSet) -> Result<List<Text>, AllocError>
-    ensures { IfOk result (λ texts. texts ≡ set) }
+    ensures { IfOk result (λ texts. texts ≡ set.texts) }
 {
     let mut texts = Vec::new(alloc);
     for text in set.in_order(alloc)? {

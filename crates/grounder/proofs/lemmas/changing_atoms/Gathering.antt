@@ -1,11 +1,12 @@
 -- The changing atoms of a task are gathered action by action.
-use Rattle.std.proofs.Common.{◌≡◌, ℕ, zero, suc, ◌+◌, ◌-◌, ◌<◌, ◌≤◌, Bool, List, [], ◌∷◌, ◌++◌, map, filter, length, take, drop, get_or, add-one, refl, sym, ap, subst, ◌∙◌, arith}
+use Rattle.std.proofs.Common.{◌≡◌, ℕ, zero, suc, ◌+◌, ◌-◌, ◌<◌, ◌≤◌, Bool, true, false, List, [], ◌∷◌, ◌++◌, map, filter, length, take, drop, get_or, add-one, refl, sym, ap, subst, ◌∙◌, arith}
 use Rattle.std.specs.Prelude.{flat_map}
 use Rattle.std.specs.List.{AllZip}
 use Rattle.std.proofs.lemmas.List.{map-append}
 use Rattle.std.proofs.lemmas.Grind.{flat_map-append}
 use Rattle.plain_list.specs.Texts.{list_text}
 use Rattle.ppddl_model.specs.declared.tree.Action.{Action}
+use Rattle.ppddl_model.specs.declared.tree.InitItem.{InitItem}
 use Rattle.ppddl_model.specs.declared.tree.Task.{Task}
 use Rattle.ppddl_model.specs.State.{GroundAtom}
 use Rattle.ppddl_model.specs.Objects.{Binding, bindings}
@@ -16,8 +17,10 @@ use Rattle.task_instances.specs.facts.Facts.{table_of}
 use Rattle.task_instances.specs.kept_rows.Rows.{Table}
 use Rattle.task_instances.specs.kept_rows.Kept.{binding_of_row, AreKept}
 use Rattle.grounder.specs.texts.Texts.{with_texts, literal_texts, chance_texts, fact_texts}
+use Rattle.grounder.specs.texts.Wanted.{Wanted, none_wanted, with_more, IsPut}
 use Rattle.grounder.proofs.lemmas.texts.Adding.{texts-append}
 use Rattle.grounder.proofs.lemmas.texts.Sorting.{texts_in_order}
+use Rattle.grounder.proofs.lemmas.texts.Wanting.{with_longer, all_put_in, full_of}
 use Rattle.ground_meaning.specs.refusals.Atoms.{texts_of}
 use Rattle.grounder.specs.changing_atoms.Atoms.{kept_of, action_texts}
 
@@ -91,6 +94,44 @@ module _ (task : Task) where
       ∙ (λ i. with_texts [] (sym literals_by_action i ++ sym (map-flat list_text chance_atoms task.problem.init) i))
       ∙ ap (with_texts []) (sym (map-append list_text atoms chances))
       ∙ texts_in_order (changing_atoms task)
+
+  module _ (most : ℕ) (actions : List Action) (are : actions ≡ task.domain.actions) (begun mid : Wanted) (first : Bool) (none : begun ≡ none_wanted most) where
+    abbrev of_actions : List (List ℕ)
+    of_actions = flat_map (action_texts task) actions
+
+    abbrev of_items : List InitItem → List (List ℕ)
+    of_items items = flat_map chance_texts items
+
+    all_of : (items : List InitItem) → items ≡ task.problem.init → with_texts (with_texts [] of_actions) (of_items items) ≡ texts_of (changing_atoms task)
+    all_of items same =
+        gathered (with_texts [] of_actions) (with_texts (with_texts [] of_actions) (of_items items))
+        (ap (λ l. with_texts [] (flat_map (action_texts task) l)) are) (ap (λ l. with_texts (with_texts [] of_actions) (of_items l)) same)
+
+    -- there are more atoms than are wanted, by the literals alone
+    pub over_first : first ≡ false → IsPut begun of_actions first mid → most < length (texts_of (changing_atoms task))
+    over_first over put_in =
+        let full : most < length (with_texts [] of_actions)
+        = full_of (none_wanted most) of_actions first mid over (subst (λ s. IsPut s of_actions first mid) none put_in) in
+        let more = with_longer (with_texts [] of_actions) (of_items task.problem.init) in
+        let all = ap length (all_of task.problem.init refl) in
+        omega (arith, full, more, all)
+
+    module _ (items : List InitItem) (same : items ≡ task.problem.init) (last : Wanted) (second : Bool) (all_first : first ≡ true) (put_in : IsPut begun of_actions first mid)
+        (then_put : IsPut mid (of_items items) second last) where
+      mid_is : mid ≡ with_more (none_wanted most) of_actions
+      mid_is = all_put_in begun of_actions first mid all_first put_in ∙ ap (λ s. with_more s of_actions) none
+
+      -- with those that are drawn
+      pub over_last : second ≡ false → most < length (texts_of (changing_atoms task))
+      over_last over =
+          let full : most < length (with_texts (with_texts [] of_actions) (of_items items))
+          = full_of (with_more (none_wanted most) of_actions) (of_items items) second last over
+          (subst (λ s. IsPut s (of_items items) second last) mid_is then_put) in
+          subst (λ l. most < length l) (all_of items same) full
+
+      pub all_listed : second ≡ true → last.texts ≡ texts_of (changing_atoms task)
+      all_listed also =
+          ap (λ (s : Wanted). s.texts) (all_put_in mid (of_items items) second last also then_put ∙ ap (λ s. with_more s (of_items items)) mid_is) ∙ all_of items same
 
   pub facts_gathered : (texts : List (List ℕ)) → texts ≡ with_texts [] (flat_map fact_texts task.problem.init) → texts ≡ texts_of (facts task)
   facts_gathered texts is =

@@ -1,11 +1,13 @@
 -- The literals of the kept instances of an action: those that name no parameter are the same in each.
-use Rattle.std.proofs.Common.{◌≡◌, ℕ, Bool, true, false, ◌&&◌, cond, List, [], ◌∷◌, ◌++◌, map, length, refl, sym, ap, ◌∙◌, arith}
-use Rattle.std.specs.Prelude.{flat_map}
+use Rattle.std.proofs.Common.{◌≡◌, ℕ, Bool, true, false, ◌&&◌, cond, List, [], ◌∷◌, ◌++◌, ◌-◌, map, length, take, drop, refl, sym, ap, subst, ◌∙◌, arith}
+use Rattle.std.specs.Prelude.{flat_map, All}
 use Rattle.std.specs.List.{list_all}
 use Rattle.std.proofs.lemmas.Bool.{and_parts}
+use Rattle.std.proofs.lemmas.List.Elements.{All-tail}
 use Rattle.std.proofs.lemmas.List.Folds.{list_all-append}
 use Rattle.plain_list.specs.Texts.{list_text}
 use Rattle.ppddl_model.specs.declared.tree.Action.{Action}
+use Rattle.ppddl_model.specs.declared.tree.Param.{Param}
 use Rattle.ppddl_model.specs.declared.tree.Task.{Task}
 use Rattle.ppddl_model.specs.State.{GroundAtom}
 use Rattle.ppddl_model.specs.Objects.{World, Binding}
@@ -19,12 +21,12 @@ use Rattle.task_instances.specs.quantified_atoms.Quantified.{variables_of, is_se
 use Rattle.task_instances.proofs.lemmas.quantified_atoms.Alike.{settled_alike}
 use Rattle.task_instances.proofs.lemmas.quantified_atoms.MoreVariables.{all-flat, all_same, all_both, all_const}
 use Rattle.task_instances.specs.kept_rows.Rows.{Table}
-use Rattle.task_instances.specs.kept_rows.Kept.{binding_of_row, AreKept}
+use Rattle.task_instances.specs.kept_rows.Kept.{bound_to, binding_of_row, AreKept}
 use Rattle.grounder.specs.texts.Laws.{SameTextsPutIn}
 use Rattle.grounder.specs.texts.Texts.{with_texts, literal_texts, first_texts, under_texts}
 use Rattle.grounder.proofs.lemmas.texts.Adding.{texts-append}
 use Rattle.grounder.specs.changing_atoms.Atoms.{action_texts, row_texts}
-use Rattle.grounder.proofs.lemmas.changing_atoms.Gathering.{by_rows}
+use Rattle.grounder.proofs.lemmas.changing_atoms.Gathering.{by_rows, tail_is}
 
 all-map : {X Y : Type 0} (f : Y → Bool) (g : X → Y) (xs : List X) → list_all f (map g xs) ≡ list_all (λ x. f (g x)) xs
 all-map f g [] = refl
@@ -114,3 +116,17 @@ module _ (task : Task) (a : Action) (t : Table) (kept : AreKept task a t) where
     pub all_rows : SameTextsPutIn → (texts : List (List ℕ))
         → with_texts (with_texts texts once) each ≡ with_texts texts (action_texts task a)
     all_rows alike texts = sym (texts-append texts once each) ∙ alike texts (once ++ each) (action_texts task a) (λ g. same_pass g)
+
+-- ---- a row of objects, bound one by one
+
+pub bound_none : (w : World) (params : List Param) (row : List ℕ) (b : Binding) → length params ≡ 0 → bound_to w params row b ≡ b
+bound_none w [] row b none = refl
+bound_none w (p ∷ params) row b none = absurd (omega (arith, none))
+
+pub one_less : {X : Type 0} (xs : List X) → length (take (length xs - 1) (drop 1 xs)) ≡ length xs - 1
+one_less [] = refl
+one_less (x ∷ xs) = let same = ap length (tail_is (x ∷ xs)) in omega (arith, same)
+
+pub all_behind : (P : ℕ → Type 0) (row : List ℕ) → All P row → All P (take (length row - 1) (drop 1 row))
+all_behind P [] all = all
+all_behind P (o ∷ row) all = subst (All P) (sym (tail_is (o ∷ row))) (All-tail P o row all)

@@ -69,7 +69,7 @@ products-long (x ∷ xs) ys =
 
 -- ---- powers of two
 
-one_power : (k : ℕ) → 1 ≤ 2 ^ k
+pub one_power : (k : ℕ) → 1 ≤ 2 ^ k
 one_power k = pow-le-pow_right {n = 2} (omega arith) {i = 0} {j = k} (omega arith)
 
 pub power_more : (j k : ℕ) → j ≤ k → 2 ^ j ≤ 2 ^ k

@@ -218,23 +218,41 @@ module _ (task : Task) (charges : Charges) where
       abbrev Steps : Type 0
       Steps = (on n s (i ∷ more) ≡ Err GroundSize) ⊎ ((t : ℕ) × (s + size ≤ t) × (on n s (i ∷ more) ≡ on (n + 1) t more))
 
+      not_more : size_of task charges i ≤ 2 ^ least * size
+      not_more =
+          let times : length all * size ≤ 2 ^ least * size = mul-le-mul_right size few.long in
+          let whole : size_of task charges i ≡ length all * size = ap (λ k. k * size) listed in
+          omega (arith, times, whole)
+
+      reached : n + 1 ≤ most_of Actions → s + size ≤ most_of GroundSize → on n s (i ∷ more) ≡ later (size_of task charges i)
+      reached room under =
+          two_tests ∙ ap (λ r. r >>= λ _. second >>= λ _. later (size_of task charges i)) (passes (n + 1) Actions room)
+          ∙ ap (λ r. r >>= λ _. later (size_of task charges i)) (passes (s + size) GroundSize under)
+
+      -- within the limits, however many choices it has
+      pub goes_on : n + 1 ≤ most_of Actions → s + 2 ^ least * size ≤ most_of GroundSize
+          → (size_of task charges i ≤ 2 ^ least * size) × (on n s (i ∷ more) ≡ on (n + 1) (s + size_of task charges i) more)
+      goes_on room under =
+          let most = not_more in
+          let own = not_less in
+          let inside : s + size_of task charges i ≤ most_of GroundSize = omega (arith, under, most) in (
+            most,
+            reached room (omega (arith, inside, own))
+                ∙ ap (λ r. r >>= λ _. on (n + 1) (s + size_of task charges i) more) (passes (s + size_of task charges i) GroundSize inside),
+          )
+
       light_step : n + 1 ≤ most_of Actions → Steps
       light_step room = elim (cases_lt (most_of GroundSize) (s + size)) [
         | inl above ↦ inl (large_stop room above)
         | inr under ↦ elim (cases_lt (most_of GroundSize) (s + size_of task charges i)) [
-          | inl above ↦ inl (reached under ∙ ap (λ r. r >>= λ _. on (n + 1) (s + size_of task charges i) more) (fails (s + size_of task charges i) GroundSize above))
+          | inl above ↦ inl (reached room under ∙ ap (λ r. r >>= λ _. on (n + 1) (s + size_of task charges i) more) (fails (s + size_of task charges i) GroundSize above))
           | inr within_it ↦ inr (
             s + size_of task charges i,
             (let more = not_less in omega (arith, more)),
-            reached under ∙ ap (λ r. r >>= λ _. on (n + 1) (s + size_of task charges i) more) (passes (s + size_of task charges i) GroundSize within_it),
+            reached room under ∙ ap (λ r. r >>= λ _. on (n + 1) (s + size_of task charges i) more) (passes (s + size_of task charges i) GroundSize within_it),
           )
         ]
       ]
-        where
-          reached : s + size ≤ most_of GroundSize → on n s (i ∷ more) ≡ later (size_of task charges i)
-          reached under =
-              two_tests ∙ ap (λ r. r >>= λ _. second >>= λ _. later (size_of task charges i)) (passes (n + 1) Actions room)
-              ∙ ap (λ r. r >>= λ _. later (size_of task charges i)) (passes (s + size) GroundSize under)
 
       -- without branches there is one choice
       size_is : count ≡ 0 → size_of task charges i ≡ size
@@ -483,7 +501,7 @@ module _ (task : Task) (base : ℕ) (a : Action) (t : Table) (kept : AreKept tas
 -- ---- those of all actions
 
 module _ (task : Task) (charges : Charges) (whole : Result ℕ LimitCode) (base : ℕ) (same : base_cost task charges ≡ base) where
-  split : (actions : List Action) (i : ℕ) (a : Action) → i < length actions → a ≡ get_or actions i a
+  pub split : (actions : List Action) (i : ℕ) (a : Action) → i < length actions → a ≡ get_or actions i a
       → flat_map (instances_of task) (drop i actions) ≡ instances_of task a ++ flat_map (instances_of task) (drop (i + 1) actions)
   split actions i a within is =
       ap (flat_map (instances_of task)) (drop-cons actions i a within)

@@ -1,5 +1,5 @@
 -- Texts that are put in one after another, and the texts of effects and items that are built from their parts.
-use Rattle.std.proofs.Common.{◌≡◌, ℕ, zero, suc, ◌+◌, ◌-◌, ◌<◌, ◌≤◌, List, [], ◌∷◌, ◌++◌, map, length, take, drop, drop-cons, get_or, add-one, refl, sym, ap, ◌∙◌, arith}
+use Rattle.std.proofs.Common.{◌≡◌, ℕ, zero, suc, ◌-◌, ◌≤◌, List, [], ◌∷◌, ◌++◌, map, length, take, drop, get_or, refl, sym, ap, ◌∙◌, arith}
 use Rattle.std.specs.Prelude.{flat_map}
 use Rattle.std.specs.Borrow.{Bor}
 use Rattle.std.specs.BTreeSet.{insert_key}
@@ -18,25 +18,6 @@ use Rattle.grounder.specs.texts.Texts.{with_texts, ground_texts, atom_text, init
 pub texts-append : (texts xs ys : List (List ℕ)) → with_texts texts (xs ++ ys) ≡ with_texts (with_texts texts xs) ys
 texts-append texts [] ys = refl
 texts-append texts (x ∷ xs) ys = texts-append (insert_key compare_texts texts x) xs ys
-
-drop_all : {X : Type 0} (i : ℕ) (xs : List X) → length xs ≤ i → drop i xs ≡ []
-drop_all zero [] short = refl
-drop_all (suc i) [] short = refl
-drop_all zero (x ∷ xs) short = absurd (omega arith)
-drop_all (suc i) (x ∷ xs) short = drop_all i xs (omega arith)
-
--- one item more, with all texts that it gives
-pub texts_more : {X : Type 0} (f : X → List (List ℕ)) (xs : List X) (i : ℕ) (x d : X) (so_far next whole : List (List ℕ))
-    → i < length xs → x ≡ get_or xs i d → next ≡ with_texts so_far (f x)
-    → with_texts so_far (flat_map f (drop i xs)) ≡ whole → with_texts next (flat_map f (drop (i + 1) xs)) ≡ whole
-texts_more f xs i x d so_far next whole within is step before =
-    ap (λ texts. with_texts texts (flat_map f (drop (i + 1) xs))) step
-    ∙ sym (texts-append so_far (f x) (flat_map f (drop (i + 1) xs)))
-    ∙ ap (with_texts so_far)
-    (sym (ap (flat_map f) (drop-cons xs i d within)
-    ∙ ap (λ y. f y ++ flat_map f (drop (suc i) xs)) (sym is)
-    ∙ ap (λ k. f x ++ flat_map f (drop k xs)) (sym (add-one i))))
-    ∙ before
 
 map-flat : {X Y Z : Type 0} (g : Y → Z) (f : X → List Y) (xs : List X) → flat_map (λ x. map g (f x)) xs ≡ map g (flat_map f xs)
 map-flat g f [] = refl

@@ -15,12 +15,12 @@ use Rattle.type_table.proofs.Lists.{by_test}
 use Rattle.ground_meaning.specs.refusals.Atoms.{with_atom, by_texts, texts_of}
 use Rattle.grounder.specs.texts.Texts.{with_texts}
 
-by_order : {A : Type 0} (o : Ordering) → (o ≡ Less → A) → (o ≡ Equal → A) → (o ≡ Greater → A) → A
+pub by_order : {A : Type 0} (o : Ordering) → (o ≡ Less → A) → (o ≡ Equal → A) → (o ≡ Greater → A) → A
 by_order Less less equal greater = less refl
 by_order Equal less equal greater = equal refl
 by_order Greater less equal greater = greater refl
 
-equal_is : (x y : List ℕ) → compare_texts x y ≡ Equal → x ≡ y
+pub equal_is : (x y : List ℕ) → compare_texts x y ≡ Equal → x ≡ y
 equal_is x y level = (same_name-Decides x y).0 (ap is_eq level)
 
 below_above : (x y : List ℕ) → compare_texts x y ≡ Less → compare_texts y x ≡ Greater
@@ -32,7 +32,7 @@ above_below x y greater = nat_list_cmp_total.antisymm y x ∙ ap ordering_revers
 before : (x y z : List ℕ) → compare_texts x y ≡ Less → compare_texts y z ≡ Less → compare_texts x z ≡ Less
 before = nat_list_cmp_total.trans
 
-abbrev put : List (List ℕ) → List ℕ → List (List ℕ)
+abbrev pub put : List (List ℕ) → List ℕ → List (List ℕ)
 put = insert_key compare_texts
 
 -- ---- two texts may be put in either way round

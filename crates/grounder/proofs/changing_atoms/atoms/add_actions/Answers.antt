@@ -1,7 +1,7 @@
 use Rattle.std.proofs.Common.{◌≡◌, length, get_or, arith, subst, sym}
 use Rattle.task_instances.specs.kept_rows.Kept.{AreKept}
 use Rattle.grounder.specs.changing_atoms.Atoms.{action_texts}
-use Rattle.grounder.proofs.lemmas.texts.Adding.{texts_more}
+use Rattle.grounder.proofs.lemmas.texts.Wanting.{item_more, item_over}
 use Rattle.grounder.proofs.lemmas.changing_atoms.Gathering.{zip_at, zip_long}
 use Rattle.grounder.proofs.changing_atoms.atoms.add_actions.Goals as goal
 
@@ -19,6 +19,12 @@ add_action-requires c =
 
 pub loop-place-preserved : goal.loop-place-preserved
 loop-place-preserved c =
-    texts_more (action_texts c.args.facts.now) c.args.actions.now c.loop-place.place c.index-actions-place.result c.index-actions-place.result
-    c.loop-place.texts c.add_action.new.texts _ c.loop-place-test.true c.index-actions-place.is c.in_ok-add_action.ensures
-    c.loop-place.invariant
+    item_more (action_texts c.args.facts.now) c.args.actions.now c.loop-place.place c.index-actions-place.result c.index-actions-place.result
+    c.loop-place.texts c.add_action.new.texts _ c.in_ok-add_action.field-0 c.loop-place-test.true c.index-actions-place.is c.in_ok-add_action.ensures
+    c.loop-place.invariant c.if-not-branch.false
+
+pub returns-then-not-branch : goal.returns-then-not-branch
+returns-then-not-branch c =
+    item_over (action_texts c.args.facts.now) c.args.actions.now c.loop-place.place c.index-actions-place.result c.index-actions-place.result
+    c.loop-place.texts c.add_action.new.texts _ c.in_ok-add_action.field-0 c.loop-place-test.true c.index-actions-place.is c.in_ok-add_action.ensures
+    c.loop-place.invariant c.if-not-branch.true

@@ -1,10 +1,16 @@
 use Rattle.ppddl_model.specs.Steps.{world}
 use Rattle.grounder.specs.texts.Texts.{first_texts}
-use Rattle.grounder.proofs.lemmas.texts.Adding.{texts_more}
+use Rattle.grounder.proofs.lemmas.texts.Wanting.{item_more, item_over}
 use Rattle.grounder.proofs.texts.literals.add_first.Goals as goal
 
 pub loop-quantified-preserved : goal.loop-quantified-preserved
 loop-quantified-preserved c =
-    texts_more (first_texts (world c.args.facts.now)) c.args.atoms.now c.loop-quantified.quantified-index c.quantified-item.result c.quantified-item.result
-    c.loop-quantified.texts c.add_one_first.new.texts _ c.loop-quantified-test.true c.quantified-item.is c.in_ok-add_one_first.ensures
-    c.loop-quantified.invariant
+    item_more (first_texts (world c.args.facts.now)) c.args.atoms.now c.loop-quantified.quantified-index
+    c.quantified-item.result c.quantified-item.result c.loop-quantified.texts c.add_one_first.new.texts _ c.in_ok-add_one_first.field-0
+    c.loop-quantified-test.true c.quantified-item.is c.in_ok-add_one_first.ensures c.loop-quantified.invariant c.if-not-branch.false
+
+pub returns-then-not-branch : goal.returns-then-not-branch
+returns-then-not-branch c =
+    item_over (first_texts (world c.args.facts.now)) c.args.atoms.now c.loop-quantified.quantified-index
+    c.quantified-item.result c.quantified-item.result c.loop-quantified.texts c.add_one_first.new.texts _ c.in_ok-add_one_first.field-0
+    c.loop-quantified-test.true c.quantified-item.is c.in_ok-add_one_first.ensures c.loop-quantified.invariant c.if-not-branch.true
