@@ -42,7 +42,7 @@ as_first : (c : Content) → Content
 as_first c = content_of 1 c.penalty c.lower c.upper c.atoms c.acts c.rows
 
 module _ (c : Content) (is : IsCertificate c) where
-  first_is : IsCertificate (content_of 1 c.penalty c.lower c.upper c.atoms c.acts c.rows)
+  pub first_is : IsCertificate (content_of 1 c.penalty c.lower c.upper c.atoms c.acts c.rows)
   first_is = record {
     version = inl refl;
     penalty = is.penalty;

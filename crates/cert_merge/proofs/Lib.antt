@@ -11,3 +11,4 @@ pub mod Taken
 pub mod Theorem
 pub mod Together
 pub mod NextRow
+pub mod OneMerge

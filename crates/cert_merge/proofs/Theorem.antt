@@ -260,6 +260,7 @@ module _ (g : Ground) where
 
         pub is_merge : IsMergeOf g c d m
         is_merge = record {
+          form = formed;
           version = version;
           balanced = is_balanced;
           rows = λ s. (λ has. lined_from s (lined s has), λ has. unlined s (lined_to s has));
@@ -269,6 +270,7 @@ module _ (g : Ground) where
           goal = λ row inside on. ((all_marked row inside).at_goal on).2;
           in_first = within.0;
           in_second = within.1;
+          named = named;
         }
 
     -- ---- the certificate of a draft

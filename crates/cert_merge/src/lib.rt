@@ -17,6 +17,6 @@ mod refusal;
 mod row_state;
 mod tables;
 
-pub use laws::merge_laws;
+pub use laws::{merge_laws, merged_laws};
 pub use merging::merge;
 pub use refusal::MergeRefusal;
