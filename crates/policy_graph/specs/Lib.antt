@@ -1,0 +1,5 @@
+pub mod Reached
+pub mod Graph
+pub mod Text
+pub mod Search
+pub mod Claims
