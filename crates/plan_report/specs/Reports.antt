@@ -4,7 +4,9 @@
 --     fraction_text n d      `n/d`
 --     interval_line l u      an interval in units
 --     under_line l           what is known from below, in units
---     accepted_text c        the report of an accepted certificate: its interval and the number of its rows
+--     balanced_text word c   a word of one line, and what is said of a balanced certificate: its interval and the number of its rows
+--     accepted_text c, merged_text c
+--                            the report of an accepted certificate, and of one that two were merged to
 --     atom_text atoms n      the text of atom n behind a blank; nothing where there is no such atom
 --     atoms_text atoms ns    those of some atoms
 --     start_line g x         an initial state: its probability and its true atoms
@@ -38,9 +40,15 @@ interval_line lower upper = line (codes "interval " ++ units lower ++ codes " " 
 abbrev pub under_line : ℕ → List ℕ
 under_line l = line (codes "under " ++ units l)
 
+abbrev pub balanced_text : List ℕ → Content → List ℕ
+balanced_text word c =
+    line word ++ interval_line c.lower c.upper ++ counted_line (codes "states ") (length c.rows)
+
 abbrev pub accepted_text : Content → List ℕ
-accepted_text c =
-    codes "accepted\n" ++ interval_line c.lower c.upper ++ counted_line (codes "states ") (length c.rows)
+accepted_text = balanced_text (codes "accepted")
+
+abbrev pub merged_text : Content → List ℕ
+merged_text = balanced_text (codes "merged")
 
 module _ (atoms : List (List ℕ)) where
   abbrev pub atom_text : ℕ → List ℕ

@@ -14,7 +14,7 @@ mod solved;
 mod under;
 mod units;
 
-pub use accepted::check_report;
+pub use accepted::{check_report, merge_report};
 pub use certificates::certificate_of;
 pub use ending::Ending;
 pub use grounded::ground_report;

@@ -4,17 +4,17 @@ use Rattle.std.specs.Prelude.{find, codes, nat_eq, option_map, option_and_then}
 use Rattle.std.proofs.lemmas.Option.{option_and_then_some, cond_some}
 use Rattle.std.specs.Str.{bytes_eq}
 use Rattle.plan_request.specs.words.Words.{Text, Item, is_among, positionals_of, read}
-use Rattle.plan_request.specs.words.Table.{Form, forms, run_options, solve_form, check_form, serve_form, ground_form, bench_form}
+use Rattle.plan_request.specs.words.Table.{Form, forms, run_options, solve_form, check_form, serve_form, ground_form, bench_form, merge_form, walk_form}
 use Rattle.plan_request.specs.words.Scans.{behind_name, formed, if_counted}
 use Rattle.plan_request.specs.words.Parses.{HasValues}
 use Rattle.plan_request.specs.declared.words.parsing.Parsed.{Parsed}
 use Rattle.plan_request.specs.declared.command.Command.{Command}
-use Rattle.plan_request.specs.declared.command.Command.TheVariants.{Solve, Check, Serve, Ground, Bench}
+use Rattle.plan_request.specs.declared.command.Command.TheVariants.{Solve, Check, Serve, Ground, Bench, Merge, Walk}
 use Rattle.plan_request.specs.declared.lower.Lower.{Lower}
 use Rattle.plan_request.specs.declared.lower.Lower.TheVariants as lowers
 use Rattle.plan_request.specs.Commands.{command_named}
-use Rattle.plan_request.specs.Asked.{Given, to_solve, to_serve, to_ground, given_in}
-use Rattle.plan_request.specs.Asked.{sources_of, effort_of, sizes_of, lower_of, solving_of, solved_of, checked_of, benched_of, asked_by}
+use Rattle.plan_request.specs.Asked.{Given, to_solve, to_serve, to_ground, to_merge, to_walk, given_in}
+use Rattle.plan_request.specs.Asked.{sources_of, effort_of, sizes_of, lower_of, solving_of, merging_of, walking_of, solved_of, checked_of, benched_of, asked_by}
 use Rattle.plan_request.specs.Shown.{given_by}
 use Rattle.plan_request.proofs.Options.{chosen}
 
@@ -26,6 +26,8 @@ form_of Check = check_form
 form_of Serve = serve_form
 form_of Ground = ground_form
 form_of Bench = bench_form
+form_of Merge = merge_form
+form_of Walk = walk_form
 
 behind_is : (ws : List Text) (o : Option Form) (f : Form) (items : List Item) → behind_name ws o ≡ Some (f, items) → o ≡ Some f
 behind_is ws None f items e = absurd (cc)
@@ -43,9 +45,15 @@ command_at w f e =
           | inl is ↦ (Serve, is)
           | inr c ↦ elim (chosen (bytes_eq (codes "ground") w) ground_form f _ c) [
             | inl is ↦ (Ground, is)
-            | inr d ↦ elim (chosen (bytes_eq (codes "bench") w) bench_form f None d) [
+            | inr d ↦ elim (chosen (bytes_eq (codes "bench") w) bench_form f _ d) [
               | inl is ↦ (Bench, is)
-              | inr none ↦ absurd (let x : None ≡ Some f = none in cc)
+              | inr g ↦ elim (chosen (bytes_eq (codes "merge") w) merge_form f _ g) [
+                | inl is ↦ (Merge, is)
+                | inr h ↦ elim (chosen (bytes_eq (codes "walk") w) walk_form f None h) [
+                  | inl is ↦ (Walk, is)
+                  | inr none ↦ absurd (let x : None ≡ Some f = none in cc)
+                ]
+              ]
             ]
           ]
         ]
@@ -65,9 +73,9 @@ module _ (g h : Given) where
   sources_same a b c d = rw (a, b, c, d) refl
 
   effort_same : g (codes "gap") ≡ h (codes "gap") → g (codes "rounds") ≡ h (codes "rounds") → g (codes "trials") ≡ h (codes "trials")
-      → g (codes "depth") ≡ h (codes "depth") → g (codes "tau") ≡ h (codes "tau") → g (codes "seed") ≡ h (codes "seed") → effort_of g ≡ effort_of h
+      → g (codes "depth") ≡ h (codes "depth") → g (codes "tau") ≡ h (codes "tau") → g (codes "seed") ≡ h (codes "seed") → g (codes "ends") ≡ h (codes "ends") → effort_of g ≡ effort_of h
   unfolding effort_of
-  effort_same a b c d e f = rw (a, b, c, d, e, f) refl
+  effort_same a b c d e f k = rw (a, b, c, d, e, f, k) refl
 
   sizes_same : g (codes "workers") ≡ h (codes "workers") → g (codes "states") ≡ h (codes "states") → g (codes "sweep-states") ≡ h (codes "sweep-states")
       → sizes_of g ≡ sizes_of h
@@ -91,6 +99,16 @@ module _ (g h : Given) where
   unfolding benched_of
   benched_same a b = rw (a, b) refl
 
+  merging_same : sources_of g ≡ sources_of h → g (codes "cert") ≡ h (codes "cert") → g (codes "with") ≡ h (codes "with") → g (codes "into") ≡ h (codes "into")
+      → merging_of g ≡ merging_of h
+  unfolding merging_of
+  merging_same a b c d = rw (a, b, c, d) refl
+
+  walking_same : sources_of g ≡ sources_of h → g (codes "cert") ≡ h (codes "cert") → g (codes "seed") ≡ h (codes "seed") → g (codes "walks") ≡ h (codes "walks")
+      → g (codes "steps") ≡ h (codes "steps") → walking_of g ≡ walking_of h
+  unfolding walking_of
+  walking_same a b c d e = rw (a, b, c, d, e) refl
+
 -- a command with these options that reads a task
 abbrev reading : Text → List Text → Form
 reading name options = record { name = name; options = options; words = codes "DOMAIN" ∷ [] }
@@ -105,7 +123,7 @@ module _ (name : Text) (items : List Item) (p : Parsed) where
       (sources_same g h (v.words 0 (lit< tt)) (v.options (codes "problem") refl) (v.options (codes "penalty") refl) (v.options (codes "step-cost") refl))
       (v.options (codes "cert") refl)
       (effort_same g h (v.options (codes "gap") refl) (v.options (codes "rounds") refl) (v.options (codes "trials") refl) (v.options (codes "depth") refl)
-      (v.options (codes "tau") refl) (v.options (codes "seed") refl))
+      (v.options (codes "tau") refl) (v.options (codes "seed") refl) (v.options (codes "ends") refl))
       (sizes_same g h (v.options (codes "workers") refl) (v.options (codes "states") refl) (v.options (codes "sweep-states") refl))
 
 -- what is found under more options is found under fewer
@@ -139,6 +157,20 @@ asked_found Ground items p v =
     ap (option_map to_ground)
     (sources_same g h (v.words 0 (lit< tt)) (v.options (codes "problem") refl) (v.options (codes "penalty") refl) (v.options (codes "step-cost") refl))
 asked_found Bench items p v = benched_same (given_by p) (given_in bench_form items) (v.words 0 (lit< tt)) (v.words 1 (lit< tt))
+asked_found Merge items p v =
+    let g = given_by p in
+    let h = given_in merge_form items in
+    ap (option_map to_merge)
+    (merging_same g h
+    (sources_same g h (v.words 0 (lit< tt)) (v.options (codes "problem") refl) (v.options (codes "penalty") refl) (v.options (codes "step-cost") refl))
+    (v.options (codes "cert") refl) (v.options (codes "with") refl) (v.options (codes "into") refl))
+asked_found Walk items p v =
+    let g = given_by p in
+    let h = given_in walk_form items in
+    ap (option_map to_walk)
+    (walking_same g h
+    (sources_same g h (v.words 0 (lit< tt)) (v.options (codes "problem") refl) (v.options (codes "penalty") refl) (v.options (codes "step-cost") refl))
+    (v.options (codes "cert") refl) (v.options (codes "seed") refl) (v.options (codes "walks") refl) (v.options (codes "steps") refl))
 
 pub found_asked : (ws : List Text) (f : Form) (items : List Item) (p : Parsed) → formed ws ≡ Some (f, items) → HasValues f items p
     → asked_by f.name (given_by p) ≡ asked_by f.name (given_in f items)

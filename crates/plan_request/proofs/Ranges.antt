@@ -12,10 +12,10 @@ use Rattle.plan_request.specs.Commands.{command_named}
 use Rattle.plan_request.specs.declared.lower.Lower.{Lower}
 use Rattle.plan_request.specs.declared.lower.Lower.TheVariants as lowers
 use Rattle.plan_request.specs.declared.command.Command.{Command}
-use Rattle.plan_request.specs.declared.command.Command.TheVariants.{Solve, Check, Serve, Ground, Bench}
-use Rattle.plan_request.specs.Asked.{Given, Asked, to_serve, to_ground, given_in, lower_of}
-use Rattle.plan_request.specs.Asked.{penalty_of, sources_of, effort_of, sizes_of, solving_of, solved_of, checked_of, benched_of, asked_as, asked_by, request_of}
-use Rattle.plan_request.specs.Laws.{IsBetween, AreTerms, IsEffort, AreSizes, IsSolving, IsInRange}
+use Rattle.plan_request.specs.declared.command.Command.TheVariants.{Solve, Check, Serve, Ground, Bench, Merge, Walk}
+use Rattle.plan_request.specs.Asked.{Given, Asked, to_serve, to_ground, to_merge, to_walk, given_in, lower_of, ends_of}
+use Rattle.plan_request.specs.Asked.{penalty_of, sources_of, effort_of, sizes_of, solving_of, merging_of, walking_of, solved_of, checked_of, benched_of, asked_as, asked_by, request_of}
+use Rattle.plan_request.specs.Laws.{IsBetween, AreTerms, IsEffort, AreSizes, IsSolving, IsMerging, IsWalking, IsInRange}
 use Rattle.plan_request.proofs.Options.{of_some, if_then_some, if_mapped, if_bound, if_any}
 
 and_left : (a b : Bool) → (a && b) ≡ true → a ≡ true
@@ -90,7 +90,8 @@ effort_in given =
     (λ trials c. if_bound _ IsEffort (unless_given 1000 (whole 1 10000) (given (codes "depth"))) _ (whole_in 1000 1 10000 (lit≤ tt, lit≤ tt) (given (codes "depth")))
     (λ depth d. if_bound _ IsEffort (unless_given 10 (whole 1 1000) (given (codes "tau"))) _ (whole_in 10 1 1000 (lit≤ tt, lit≤ tt) (given (codes "tau")))
     (λ tau e. if_bound _ IsEffort (unless_given 1 (whole 0 (2 ^ 64 - 1)) (given (codes "seed"))) _ (whole_in 1 0 (2 ^ 64 - 1) (lit≤ tt, lit≤ tt) (given (codes "seed")))
-    (λ seed f. record { gap = a.1; rounds = b.1; trials = c.1; depth = d; tau = e; seed = omega (arith, f.1) }))))))
+    (λ seed f. if_bound _ IsEffort (ends_of (given (codes "ends"))) _ (if_any _)
+    (λ ends _. record { gap = a.1; rounds = b.1; trials = c.1; depth = d; tau = e; seed = omega (arith, f.1) })))))))
 
 swept_default : (states : ℕ) → 65 ≤ states → IsBetween 64 (states - 1) (min 4096 (states - 1))
 swept_default states le = (omega arith, omega arith)
@@ -111,6 +112,24 @@ solving_in lower given =
     (λ certificate _. if_bound IsEffort IsSolving (effort_of given) _ (effort_in given)
     (λ effort b. if_bound AreSizes IsSolving (sizes_of given) _ (sizes_in given)
     (λ sizes c. record { terms = a; effort = b; sizes = c }))))
+
+merging_in : (given : Given) → IfSome (merging_of given) IsMerging
+unfolding merging_of
+merging_in given =
+    if_bound AreTerms IsMerging (sources_of given) _ (sources_in given)
+    (λ sources a. if_bound _ IsMerging (given (codes "cert")) _ (if_any _)
+    (λ first _. if_bound _ IsMerging (given (codes "with")) _ (if_any _)
+    (λ second _. if_bound _ IsMerging (given (codes "into")) _ (if_any _) (λ into _. a))))
+
+walking_in : (given : Given) → IfSome (walking_of given) IsWalking
+unfolding walking_of
+walking_in given =
+    if_bound AreTerms IsWalking (sources_of given) _ (sources_in given)
+    (λ sources a. if_bound _ IsWalking (given (codes "cert")) _ (if_any _)
+    (λ certificate _. if_bound _ IsWalking (unless_given 1 (whole 0 (2 ^ 64 - 1)) (given (codes "seed"))) _ (whole_in 1 0 (2 ^ 64 - 1) (lit≤ tt, lit≤ tt) (given (codes "seed")))
+    (λ seed b. if_bound _ IsWalking (unless_given 10 (whole 1 100) (given (codes "walks"))) _ (whole_in 10 1 100 (lit≤ tt, lit≤ tt) (given (codes "walks")))
+    (λ walks c. if_bound _ IsWalking (unless_given 1000 (whole 1 10000) (given (codes "steps"))) _ (whole_in 1000 1 10000 (lit≤ tt, lit≤ tt) (given (codes "steps")))
+    (λ steps d. record { terms = a; seed = omega (arith, b.1); walks = c; steps = d })))))
 
 solved_in : (given : Given) → IfSome (solved_of given) IsInRange
 unfolding solved_of
@@ -137,6 +156,8 @@ asked_in Check given = checked_in given
 asked_in Serve given = if_mapped IsSolving IsInRange to_serve (solving_of lowers.None given) (solving_in lowers.None given) (λ s holds. holds)
 asked_in Ground given = if_mapped AreTerms IsInRange to_ground (sources_of given) (sources_in given) (λ s holds. holds)
 asked_in Bench given = benched_in given
+asked_in Merge given = if_mapped IsMerging IsInRange to_merge (merging_of given) (merging_in given) (λ m holds. holds)
+asked_in Walk given = if_mapped IsWalking IsInRange to_walk (walking_of given) (walking_in given) (λ w holds. holds)
 
 asked_by_in : (name : Text) (given : Given) → IfSome (asked_by name given) IsInRange
 asked_by_in name given = if_bound _ IsInRange (command_named name) (λ command. asked_as command given) (if_any _) (λ command _. asked_in command given)

@@ -3,8 +3,12 @@
 --     Sources, sources_of given    the texts of a task and the terms on which it is read
 --     lower_named name, lower_of text
 --                                  what is told of the cost from below where this is given; nothing where nothing is
+--     ends_named name, ends_of text
+--                                  where trials end under this name; at the depth where none is given
 --     Solving, solving_of lower given
 --                                  a task to solve, the name of its certificate, the search, and what it tells from below
+--     Merging, merging_of given    two certificates of a task to merge, and the name under which what comes of them goes
+--     Walking, walking_of given    walks to make under the policy of a certificate
 --     effort_of given, sizes_of given
 --                                  when the search ends and what its trials are, and its sizes
 --     Asked                        a request
@@ -18,8 +22,10 @@ use Rattle.plan_request.specs.words.Words.{Text, Item, positionals_of, value_of}
 use Rattle.plan_request.specs.words.Table.{Form}
 use Rattle.plan_request.specs.words.Scans.{formed}
 use Rattle.plan_request.specs.declared.command.Command.{Command}
-use Rattle.plan_request.specs.declared.command.Command.TheVariants.{Solve, Check, Serve, Ground, Bench}
+use Rattle.plan_request.specs.declared.command.Command.TheVariants.{Solve, Check, Serve, Ground, Bench, Merge, Walk}
 use Rattle.plan_request.specs.declared.effort.Effort.{Effort}
+use Rattle.plan_request.specs.declared.ends.Ends.{Ends}
+use Rattle.plan_request.specs.declared.ends.Ends.TheVariants as to
 use Rattle.plan_request.specs.declared.lower.Lower.{Lower}
 use Rattle.plan_request.specs.declared.lower.Lower.TheVariants as lowers
 use Rattle.plan_request.specs.declared.sizes.Sizes.{Sizes}
@@ -48,6 +54,15 @@ sources_of given = do
   step_cost ← unless_given 0 (amount 0 (10 ^ 12)) (given (codes "step-cost"))
   Some (record { domain = domain; problem = given (codes "problem"); penalty = penalty; step_cost = step_cost })
 
+unfoldable pub ends_named : Text → Option Ends
+ends_named name =
+    if bytes_eq (codes "depth") name then Some to.Depth
+    else if bytes_eq (codes "new") name then Some to.New
+    else None
+
+abbrev pub ends_of : Option Text → Option Ends
+ends_of = unless_given to.Depth ends_named
+
 unfoldable pub effort_of : Given → Option Effort
 effort_of given = do
   gap ← unless_given 1000 (amount 0 (10 ^ 14)) (given (codes "gap"))
@@ -56,7 +71,16 @@ effort_of given = do
   depth ← unless_given 1000 (whole 1 10000) (given (codes "depth"))
   tau ← unless_given 10 (whole 1 1000) (given (codes "tau"))
   seed ← unless_given 1 (whole 0 (2 ^ 64 - 1)) (given (codes "seed"))
-  Some (record { gap = gap; rounds = rounds; trials = trials; depth = depth; tau = tau; seed = seed })
+  ends ← ends_of (given (codes "ends"))
+  Some (record {
+    gap = gap;
+    rounds = rounds;
+    trials = trials;
+    depth = depth;
+    tau = tau;
+    seed = seed;
+    ends = ends;
+  })
 
 unfoldable pub sizes_of : Given → Option Sizes
 sizes_of given = do
@@ -69,6 +93,7 @@ unfoldable pub lower_named : Text → Option Lower
 lower_named name =
     if bytes_eq (codes "none") name then Some lowers.None
     else if bytes_eq (codes "cost") name then Some lowers.Cost
+    else if bytes_eq (codes "relaxed") name then Some lowers.Relaxed
     else None
 
 abbrev pub lower_of : Option Text → Option Lower
@@ -89,6 +114,36 @@ solving_of lower given = do
   sizes ← sizes_of given
   Some (record { sources = sources; certificate = certificate; effort = effort; sizes = sizes; lower = lower })
 
+pub record Merging : Type 0 where
+  pub sources : Sources
+  pub first : Text
+  pub second : Text
+  pub into : Text
+
+unfoldable pub merging_of : Given → Option Merging
+merging_of given = do
+  sources ← sources_of given
+  first ← given (codes "cert")
+  second ← given (codes "with")
+  into ← given (codes "into")
+  Some (record { sources = sources; first = first; second = second; into = into })
+
+pub record Walking : Type 0 where
+  pub sources : Sources
+  pub certificate : Text
+  pub seed : ℕ
+  pub walks : ℕ
+  pub steps : ℕ
+
+unfoldable pub walking_of : Given → Option Walking
+walking_of given = do
+  sources ← sources_of given
+  certificate ← given (codes "cert")
+  seed ← unless_given 1 (whole 0 (2 ^ 64 - 1)) (given (codes "seed"))
+  walks ← unless_given 10 (whole 1 100) (given (codes "walks"))
+  steps ← unless_given 1000 (whole 1 10000) (given (codes "steps"))
+  Some (record { sources = sources; certificate = certificate; seed = seed; walks = walks; steps = steps })
+
 -- ---- requests
 
 pub data Asked : Type 0 where
@@ -98,6 +153,8 @@ pub data Asked : Type 0 where
   to_ground : Sources → Asked
   -- the places, and the seed
   to_bench : ℕ → ℕ → Asked
+  to_merge : Merging → Asked
+  to_walk : Walking → Asked
 
 unfoldable pub solved_of : Given → Option Asked
 solved_of given = do
@@ -123,6 +180,8 @@ asked_as Check given = checked_of given
 asked_as Serve given = option_map to_serve (solving_of lowers.None given)
 asked_as Ground given = option_map to_ground (sources_of given)
 asked_as Bench given = benched_of given
+asked_as Merge given = option_map to_merge (merging_of given)
+asked_as Walk given = option_map to_walk (walking_of given)
 
 abbrev pub asked_by : Text → Given → Option Asked
 asked_by name given = command_named name >>= λ command. asked_as command given

@@ -3,8 +3,9 @@ use Rattle.std.specs.Prelude.{◌≡◌, ◌^◌, [], ◌∷◌, Some, None, cod
 use Rattle.std.proofs.Common.{refl}
 use Rattle.plan_request.specs.Numbers.{whole, amount}
 use Rattle.plan_request.specs.Commands.{command_named}
-use Rattle.plan_request.specs.Asked.{penalty_of, sources_of, effort_of, sizes_of, lower_named, solving_of, solved_of, checked_of, benched_of, request_of}
-use Rattle.plan_request.specs.Asked.{to_check, to_bench}
+use Rattle.plan_request.specs.Asked.{penalty_of, sources_of, effort_of, sizes_of, ends_named, lower_named, solving_of, merging_of, walking_of, solved_of, checked_of, benched_of, request_of}
+use Rattle.plan_request.specs.declared.ends.Ends.TheVariants as to
+use Rattle.plan_request.specs.Asked.{to_check, to_bench, to_merge, to_walk}
 
 leading-zeros : whole 2 1000 (codes "0002") ≡ Some 2
 unfolding whole
@@ -41,15 +42,47 @@ all-swept : request_of (codes "solve" ∷ codes "coin" ∷ codes "--cert" ∷ co
 unfolding request_of command_named solved_of solving_of sources_of penalty_of effort_of sizes_of whole amount
 all-swept = refl
 
--- the option belongs to `solve` alone, and has two values
+-- the option belongs to `solve` alone, and has three values
 serve-from-below : request_of (codes "serve" ∷ codes "coin" ∷ codes "--cert" ∷ codes "c" ∷ codes "--lower" ∷ codes "cost" ∷ []) ≡ None
 unfolding request_of
 serve-from-below = refl
 
-solve-relaxed : request_of (codes "solve" ∷ codes "coin" ∷ codes "--cert" ∷ codes "c" ∷ codes "--lower" ∷ codes "relaxed" ∷ []) ≡ None
+solve-higher : request_of (codes "solve" ∷ codes "coin" ∷ codes "--cert" ∷ codes "c" ∷ codes "--lower" ∷ codes "higher" ∷ []) ≡ None
 unfolding request_of command_named solved_of lower_named
-solve-relaxed = refl
+solve-higher = refl
+
+to-new-states : ends_named (codes "new") ≡ Some to.New
+unfolding ends_named
+to-new-states = refl
+
+solve-later : request_of (codes "solve" ∷ codes "coin" ∷ codes "--cert" ∷ codes "c" ∷ codes "--ends" ∷ codes "later" ∷ []) ≡ None
+unfolding request_of command_named solved_of solving_of sources_of penalty_of effort_of ends_named whole amount
+solve-later = refl
 
 bench-two : request_of (codes "bench" ∷ codes "0002" ∷ codes "4" ∷ []) ≡ Some (to_bench 2 4)
 unfolding request_of command_named benched_of whole
 bench-two = refl
+
+merge-coin : request_of (codes "merge" ∷ codes "coin" ∷ codes "--cert" ∷ codes "f" ∷ codes "--with=g" ∷ codes "--into" ∷ codes "f" ∷ []) ≡ Some (to_merge (record {
+  sources = record { domain = codes "coin"; problem = None; penalty = None; step_cost = 0 };
+  first = codes "f";
+  second = codes "g";
+  into = codes "f";
+}))
+unfolding request_of command_named merging_of sources_of penalty_of amount
+merge-coin = refl
+
+-- `--into` is wanted
+merge-nowhere : request_of (codes "merge" ∷ codes "coin" ∷ codes "--cert" ∷ codes "f" ∷ codes "--with" ∷ codes "g" ∷ []) ≡ None
+unfolding request_of command_named merging_of sources_of penalty_of amount
+merge-nowhere = refl
+
+walk-coin : request_of (codes "walk" ∷ codes "coin" ∷ codes "--cert" ∷ codes "c" ∷ codes "--walks" ∷ codes "2" ∷ []) ≡ Some (to_walk (record {
+  sources = record { domain = codes "coin"; problem = None; penalty = None; step_cost = 0 };
+  certificate = codes "c";
+  seed = 1;
+  walks = 2;
+  steps = 1000;
+}))
+unfolding request_of command_named walking_of sources_of penalty_of whole amount
+walk-coin = refl

@@ -11,6 +11,8 @@ pub(crate) enum Command {
     Serve,
     Ground,
     Bench,
+    Merge,
+    Walk,
 }
 
 /// The command of this name.
@@ -32,6 +34,12 @@ pub(crate) fn command_named(name: &str) -> Option<Command>
     }
     if "bench" == name {
         return Some(Command::Bench);
+    }
+    if "merge" == name {
+        return Some(Command::Merge);
+    }
+    if "walk" == name {
+        return Some(Command::Walk);
     }
     None
 }

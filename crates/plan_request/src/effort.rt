@@ -4,6 +4,7 @@ ghost use Rattle.std.specs.Prelude.{◌≡◌};
 ghost use Rattle.plan_request.specs.Asked.{effort_of};
 ghost use Rattle.plan_request.specs.Shown.{given_by};
 
+use crate::ends::{Ends, ends_of};
 use crate::numbers::{amount_or, count_or, whole_or};
 use crate::words::Parsed;
 
@@ -22,6 +23,8 @@ pub struct Effort {
     pub tau: u32,
     /// The seed of the trials' draws.
     pub seed: u64,
+    /// Where the trials end.
+    pub ends: Ends,
 }
 
 /// The effort that the options give.
@@ -35,6 +38,7 @@ pub(crate) fn effort_of(parsed: &Parsed<'_>) -> Option<Effort>
     let depth = count_or(1_000, parsed.value("depth"), 1, 10_000)?;
     let tau = count_or(10, parsed.value("tau"), 1, 1_000)?;
     let seed = whole_or(1, parsed.value("seed"), 0, u64::MAX)?;
+    let ends = ends_of(parsed)?;
     Some(Effort {
         gap,
         rounds,
@@ -42,5 +46,6 @@ pub(crate) fn effort_of(parsed: &Parsed<'_>) -> Option<Effort>
         depth,
         tau,
         seed,
+        ends,
     })
 }

@@ -4,19 +4,24 @@
 
 mod command;
 mod effort;
+mod ends;
 mod laws;
 mod lower;
+mod merging;
 mod numbers;
 mod request;
 mod sizes;
 mod solving;
 mod sources;
 mod stop;
+mod walking;
 mod words;
 
 pub use effort::Effort;
+pub use ends::Ends;
 pub use laws::request_laws;
 pub use lower::Lower;
+pub use merging::Merging;
 pub use request::{Request, request_of};
 pub use sizes::Sizes;
 pub use solving::Solving;
@@ -25,3 +30,4 @@ pub use stop::{
     BAD_WORDS, DONE, GAP_LEFT, LIMIT, NO_MEMORY, NOT_ACCEPTED, READ_FAILED, REFUSED, Report, Stop,
     WRITE_FAILED,
 };
+pub use walking::Walking;

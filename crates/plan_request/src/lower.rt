@@ -13,6 +13,8 @@ pub enum Lower {
     None,
     /// What is known of the starts by the least cost of a choice.
     Cost,
+    /// What is known of the starts by what reaching the goal costs where nothing is deleted.
+    Relaxed,
 }
 
 /// What is told where this name is given.
@@ -25,6 +27,9 @@ fn lower_named(name: &str) -> Option<Lower>
     }
     if "cost" == name {
         return Some(Lower::Cost);
+    }
+    if "relaxed" == name {
+        return Some(Lower::Relaxed);
     }
     None
 }

@@ -8,9 +8,11 @@ ghost use Rattle.plan_request.specs.Shown.{shown_request, given_by};
 
 use crate::command::{Command, command_named};
 use crate::lower::{Lower, lower_of};
+use crate::merging::{Merging, merging_of};
 use crate::numbers::{count_of, whole_of};
 use crate::solving::{Solving, solving_of};
 use crate::sources::{Sources, sources_of};
+use crate::walking::{Walking, walking_of};
 use crate::words::{Parsed, parse};
 use std::alloc::{AllocError, Global};
 
@@ -37,6 +39,10 @@ pub enum Request<'a> {
         /// The seed.
         seed: u64,
     },
+    /// To merge two certificates of a task.
+    Merge(Merging<'a>),
+    /// To make walks under the policy of a certificate.
+    Walk(Walking<'a>),
 }
 
 /// The request of the words behind the program's name; None exactly where they have none. It is refused
@@ -72,6 +78,8 @@ fn asked_as<'a>(command: Command, parsed: &Parsed<'a>) -> Option<Request<'a>>
         Command::Serve => Some(Request::Serve(solving_of(parsed, Lower::None)?)),
         Command::Ground => Some(Request::Ground(sources_of(parsed)?)),
         Command::Bench => benched_of(parsed),
+        Command::Merge => Some(Request::Merge(merging_of(parsed)?)),
+        Command::Walk => Some(Request::Walk(walking_of(parsed)?)),
     }
 }
 

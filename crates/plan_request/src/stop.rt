@@ -51,10 +51,19 @@ pub enum Stop {
         /// The line of the text, or the row of the certificate, at which it is; 0 where it is at none.
         row: u32,
     },
-    /// A quantity of the texts is above its limit, or the length of a certificate that was found.
+    /// The bytes of the second of two certificates are no text of a balanced one.
+    #[error("SecondNotAccepted")]
+    SecondNotAccepted {
+        /// The number of what is wrong: 30 to 40.
+        code: u8,
+        /// The line of the text, or the row of the certificate, at which it is; 0 where it is at none.
+        row: u32,
+    },
+    /// A quantity of the texts is above its limit, or a certificate that was found or merged is too large.
     #[error("Limit")]
     Limit {
-        /// The number of the limit: 20 to 29 of texts, 33 of a certificate that was found.
+        /// The number of the limit: 20 to 29 of texts, 33 of a certificate's length, 41 of the rows of a
+        /// merged one.
         code: u8,
         /// The greatest that is within it.
         most: u64,
@@ -72,7 +81,7 @@ impl Stop {
             Stop::WriteFailed => WRITE_FAILED,
             Stop::NoMemory => NO_MEMORY,
             Stop::Refused { .. } => REFUSED,
-            Stop::NotAccepted { .. } => NOT_ACCEPTED,
+            Stop::NotAccepted { .. } | Stop::SecondNotAccepted { .. } => NOT_ACCEPTED,
             Stop::Limit { .. } => LIMIT,
         }
     }
@@ -93,6 +102,9 @@ impl Stop {
                 format!(in alloc; "refused {code} {file}:{line}\n")?
             }
             Stop::NotAccepted { code, row } => format!(in alloc; "not accepted {code} {row}\n")?,
+            Stop::SecondNotAccepted { code, row } => {
+                format!(in alloc; "second not accepted {code} {row}\n")?
+            }
             Stop::Limit { code, most } => format!(in alloc; "limit {code} {most}\n")?,
         };
         Ok(CowStr::Owned(line))

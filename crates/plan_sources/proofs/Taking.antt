@@ -12,7 +12,7 @@ use Rattle.ppddl_lex.specs.declared.lexer.TheConstants.{MOST_TEXT}
 use Rattle.ground_model.specs.Ground.{Ground}
 use Rattle.plan_request.specs.Asked.{Sources}
 use Rattle.plan_request.specs.declared.stop.Stop.{Stop}
-use Rattle.plan_request.specs.declared.stop.Stop.TheVariants.{BadWords, ReadFailed, WriteFailed, NoMemory, Refused, NotAccepted, Limit}
+use Rattle.plan_request.specs.declared.stop.Stop.TheVariants.{BadWords, ReadFailed, WriteFailed, NoMemory, Refused, NotAccepted, SecondNotAccepted, Limit}
 use Rattle.plan_sources.specs.declared.texts.Texts.{Texts}
 use Rattle.plan_sources.specs.Endings.{MayEnd, MayGive, IsFault}
 use Rattle.plan_sources.specs.Problems.{AreShort, text_within, second_within, texts_within, one_text, problem_in, problem_of}
@@ -29,6 +29,7 @@ stops_whole lacks lacks' part whole f h BadWords ends = h BadWords ends
 stops_whole lacks lacks' part whole f h WriteFailed ends = h WriteFailed ends
 stops_whole lacks lacks' part whole f h (Refused code file line) ends = h (Refused code file line) ends
 stops_whole lacks lacks' part whole f h (NotAccepted code row) ends = h (NotAccepted code row) ends
+stops_whole lacks lacks' part whole f h (SecondNotAccepted code row) ends = h (SecondNotAccepted code row) ends
 stops_whole lacks lacks' part whole f h (Limit code most) ends = h (Limit code most) ends
 
 -- what a part answers the whole answers, where the part is its last

@@ -9,7 +9,7 @@ use Rattle.std.specs.Prelude.{◌≡◌, ◌≤◌, ◌⊎◌, ℕ, List, Result
 use Rattle.shelf_io.specs.Causes.{Rose}
 use Rattle.shelf_io.specs.Shelf.{Told, MayHold}
 use Rattle.plan_request.specs.declared.stop.Stop.{Stop}
-use Rattle.plan_request.specs.declared.stop.Stop.TheVariants.{BadWords, ReadFailed, WriteFailed, NoMemory, Refused, NotAccepted, Limit}
+use Rattle.plan_request.specs.declared.stop.Stop.TheVariants.{BadWords, ReadFailed, WriteFailed, NoMemory, Refused, NotAccepted, SecondNotAccepted, Limit}
 
 abbrev pub MayEnd : {A : Type 0} → Type 0 → (Result A Stop → Type 0) → Result A Stop → Type 0
 MayEnd fault gives (Ok x) = gives (Ok x)
@@ -19,6 +19,7 @@ MayEnd fault gives (Err BadWords) = gives (Err BadWords)
 MayEnd fault gives (Err WriteFailed) = gives (Err WriteFailed)
 MayEnd fault gives (Err (Refused code file line)) = gives (Err (Refused code file line))
 MayEnd fault gives (Err (NotAccepted code row)) = gives (Err (NotAccepted code row))
+MayEnd fault gives (Err (SecondNotAccepted code row)) = gives (Err (SecondNotAccepted code row))
 MayEnd fault gives (Err (Limit code most)) = gives (Err (Limit code most))
 
 abbrev pub MayGive : {A : Type 0} → (List ℕ → Result A Stop) → Told → Result A Stop → Type 0

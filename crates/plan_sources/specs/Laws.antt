@@ -30,7 +30,7 @@ use Rattle.ppddl_grammar.specs.texts.Texts.{Reads}
 use Rattle.plan_request.specs.Asked.{Sources}
 use Rattle.plan_request.specs.Laws.{AreTerms}
 use Rattle.plan_request.specs.declared.stop.Stop.{Stop}
-use Rattle.plan_request.specs.declared.stop.Stop.TheVariants.{BadWords, ReadFailed, WriteFailed, NoMemory, Refused, NotAccepted, Limit}
+use Rattle.plan_request.specs.declared.stop.Stop.TheVariants.{BadWords, ReadFailed, WriteFailed, NoMemory, Refused, NotAccepted, SecondNotAccepted, Limit}
 use Rattle.plan_sources.specs.declared.texts.Texts.{Texts}
 use Rattle.plan_sources.specs.Problems.{stop_of_fault, stop_of_grounding, terms_of, problem_of}
 use Rattle.plan_sources.specs.Sources.{MayGiveProblem}
@@ -59,6 +59,7 @@ IsOfTexts ReadFailed = ⊥
 IsOfTexts WriteFailed = ⊥
 IsOfTexts NoMemory = ⊥
 IsOfTexts (NotAccepted code row) = ⊥
+IsOfTexts (SecondNotAccepted code row) = ⊥
 
 abbrev pub TextsStopSo : Type 0
 TextsStopSo = (s : Sources) (t : Texts) (stop : Stop) → problem_of s t ≡ Err stop → IsOfTexts stop

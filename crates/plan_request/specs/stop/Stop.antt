@@ -18,7 +18,7 @@ use Rattle.plan_request.specs.declared.stop.status.TheConstants.{DONE, GAP_LEFT,
 use Rattle.plan_request.specs.declared.stop.report.Report.{Report}
 use Rattle.plan_request.specs.declared.stop.report.Report.TheVariants.{Done, GapLeft}
 use Rattle.plan_request.specs.declared.stop.Stop.{Stop}
-use Rattle.plan_request.specs.declared.stop.Stop.TheVariants.{BadWords, ReadFailed, WriteFailed, NoMemory, Refused, NotAccepted, Limit}
+use Rattle.plan_request.specs.declared.stop.Stop.TheVariants.{BadWords, ReadFailed, WriteFailed, NoMemory, Refused, NotAccepted, SecondNotAccepted, Limit}
 
 abbrev pub status_of : Stop → ℕ
 status_of BadWords = BAD_WORDS
@@ -27,6 +27,7 @@ status_of WriteFailed = WRITE_FAILED
 status_of NoMemory = NO_MEMORY
 status_of (Refused code file line) = REFUSED
 status_of (NotAccepted code row) = NOT_ACCEPTED
+status_of (SecondNotAccepted code row) = NOT_ACCEPTED
 status_of (Limit code most) = LIMIT
 
 abbrev pub line_of : Stop → List ℕ
@@ -37,6 +38,7 @@ line_of NoMemory = []
 line_of (Refused code file line) =
     codes "refused " ++ decimal (number_of code) ++ codes " " ++ decimal file ++ codes ":" ++ decimal line ++ codes "\n"
 line_of (NotAccepted code row) = codes "not accepted " ++ decimal code ++ codes " " ++ decimal row ++ codes "\n"
+line_of (SecondNotAccepted code row) = codes "second not accepted " ++ decimal code ++ codes " " ++ decimal row ++ codes "\n"
 line_of (Limit code most) = codes "limit " ++ decimal code ++ codes " " ++ decimal most ++ codes "\n"
 
 -- ---- refusals, as they come

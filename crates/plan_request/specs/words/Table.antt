@@ -82,9 +82,12 @@ built_rules os ps = map built_option os ++ placed 1 ps
 abbrev pub text_options : List Text
 text_options = codes "problem" ∷ codes "penalty" ∷ codes "step-cost" ∷ []
 
+abbrev pub check_options : List Text
+check_options = codes "cert" ∷ text_options
+
 abbrev pub run_options : List Text
 run_options = codes "cert" ∷ codes "problem" ∷ codes "penalty" ∷ codes "step-cost" ∷ codes "gap" ∷ codes "rounds" ∷ codes "trials" ∷ codes "depth" ∷ codes "tau"
-    ∷ codes "workers" ∷ codes "states" ∷ codes "sweep-states" ∷ codes "seed" ∷ []
+    ∷ codes "workers" ∷ codes "states" ∷ codes "sweep-states" ∷ codes "seed" ∷ codes "ends" ∷ []
 
 abbrev pub solve_options : List Text
 solve_options = codes "lower" ∷ run_options
@@ -93,7 +96,7 @@ abbrev pub solve_form : Form
 solve_form = record { name = codes "solve"; options = solve_options; words = codes "DOMAIN" ∷ [] }
 
 abbrev pub check_form : Form
-check_form = record { name = codes "check"; options = codes "cert" ∷ text_options; words = codes "DOMAIN" ∷ [] }
+check_form = record { name = codes "check"; options = check_options; words = codes "DOMAIN" ∷ [] }
 
 abbrev pub serve_form : Form
 serve_form = record { name = codes "serve"; options = run_options; words = codes "DOMAIN" ∷ [] }
@@ -104,8 +107,14 @@ ground_form = record { name = codes "ground"; options = text_options; words = co
 abbrev pub bench_form : Form
 bench_form = record { name = codes "bench"; options = []; words = codes "N" ∷ codes "SEED" ∷ [] }
 
+abbrev pub merge_form : Form
+merge_form = record { name = codes "merge"; options = codes "with" ∷ codes "into" ∷ check_options; words = codes "DOMAIN" ∷ [] }
+
+abbrev pub walk_form : Form
+walk_form = record { name = codes "walk"; options = codes "seed" ∷ codes "walks" ∷ codes "steps" ∷ check_options; words = codes "DOMAIN" ∷ [] }
+
 abbrev pub forms : List Form
-forms = solve_form ∷ check_form ∷ serve_form ∷ ground_form ∷ bench_form ∷ []
+forms = solve_form ∷ check_form ∷ serve_form ∷ ground_form ∷ bench_form ∷ merge_form ∷ walk_form ∷ []
 
 -- ---- the same as clap's command
 

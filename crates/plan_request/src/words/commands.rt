@@ -6,7 +6,7 @@ ghost use Rattle.clap.specs.declared.builder.command.Command.TheViews.{out-Comma
 ghost use Rattle.plan_request.specs.words.Table.{forms as all_forms, plan_app, sub_shape};
 ghost use Rattle.plan_request.specs.words.Shown.{shown_form};
 
-use crate::words::forms::{Form, bench, check, ground, serve, solve};
+use crate::words::forms::{Form, bench, check, ground, merge, serve, solve, walk};
 use clap::{Arg, ArgAction, Command};
 use std::alloc::{AllocError, Global};
 
@@ -41,5 +41,7 @@ pub(super) fn plan_command<'a>(alloc: Global) -> Result<Command<'a>, AllocError>
     let second = first.subcommand(sub_command(alloc, check())?)?;
     let third = second.subcommand(sub_command(alloc, serve())?)?;
     let fourth = third.subcommand(sub_command(alloc, ground())?)?;
-    Ok(fourth.subcommand(sub_command(alloc, bench())?)?)
+    let fifth = fourth.subcommand(sub_command(alloc, bench())?)?;
+    let sixth = fifth.subcommand(sub_command(alloc, merge())?)?;
+    Ok(sixth.subcommand(sub_command(alloc, walk())?)?)
 }

@@ -4,6 +4,7 @@ ghost use Rattle.std.specs.Prelude.{◌≡◌, find, option_map};
 ghost use Rattle.std.specs.Str.{bytes_eq};
 ghost use Rattle.plan_request.specs.words.Table.{forms as all_forms, solve_form, check_form};
 ghost use Rattle.plan_request.specs.words.Table.{serve_form, ground_form, bench_form};
+ghost use Rattle.plan_request.specs.words.Table.{merge_form, walk_form};
 ghost use Rattle.plan_request.specs.words.Shown.{shown_form};
 
 /// A command: its name, its options, and the ids of its positional words.
@@ -21,7 +22,7 @@ static TEXT_OPTIONS: [&str; 3] = ["problem", "penalty", "step-cost"];
 
 static CHECK_OPTIONS: [&str; 4] = ["cert", "problem", "penalty", "step-cost"];
 
-static RUN_OPTIONS: [&str; 13] = [
+static RUN_OPTIONS: [&str; 14] = [
     "cert",
     "problem",
     "penalty",
@@ -35,9 +36,10 @@ static RUN_OPTIONS: [&str; 13] = [
     "states",
     "sweep-states",
     "seed",
+    "ends",
 ];
 
-static SOLVE_OPTIONS: [&str; 14] = [
+static SOLVE_OPTIONS: [&str; 15] = [
     "lower",
     "cert",
     "problem",
@@ -52,6 +54,19 @@ static SOLVE_OPTIONS: [&str; 14] = [
     "states",
     "sweep-states",
     "seed",
+    "ends",
+];
+
+static MERGE_OPTIONS: [&str; 6] = ["with", "into", "cert", "problem", "penalty", "step-cost"];
+
+static WALK_OPTIONS: [&str; 7] = [
+    "seed",
+    "walks",
+    "steps",
+    "cert",
+    "problem",
+    "penalty",
+    "step-cost",
 ];
 
 static NO_OPTIONS: [&str; 0] = [];
@@ -115,6 +130,28 @@ pub(super) fn bench() -> Form
     }
 }
 
+/// The command `merge`.
+pub(super) fn merge() -> Form
+    ensures { shown_form result ≡ merge_form }
+{
+    Form {
+        name: "merge",
+        options: MERGE_OPTIONS.as_slice(),
+        words: DOMAIN.as_slice(),
+    }
+}
+
+/// The command `walk`.
+pub(super) fn walk() -> Form
+    ensures { shown_form result ≡ walk_form }
+{
+    Form {
+        name: "walk",
+        options: WALK_OPTIONS.as_slice(),
+        words: DOMAIN.as_slice(),
+    }
+}
+
 /// The command with this name.
 pub(super) fn form_named(name: &str) -> Option<Form>
     ensures { option_map shown_form result ≡ find (λ f. bytes_eq f.name name.now) all_forms }
@@ -133,6 +170,12 @@ pub(super) fn form_named(name: &str) -> Option<Form>
     }
     if "bench" == name {
         return Some(bench());
+    }
+    if "merge" == name {
+        return Some(merge());
+    }
+    if "walk" == name {
+        return Some(walk());
     }
     None
 }

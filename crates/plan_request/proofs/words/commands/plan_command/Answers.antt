@@ -14,4 +14,6 @@ returns c =
     let second = c.in_ok-second.ensures.shape c.in_ok-sub_command-2.ensures.local ∙ ap₂ with_subcommand first (ap top c.in_ok-sub_command-2.ensures.shape ∙ ap sub_shape c.check.ensures) in
     let third = c.in_ok-third.ensures.shape c.in_ok-sub_command-3.ensures.local ∙ ap₂ with_subcommand second (ap top c.in_ok-sub_command-3.ensures.shape ∙ ap sub_shape c.serve.ensures) in
     let fourth = c.in_ok-fourth.ensures.shape c.in_ok-sub_command-4.ensures.local ∙ ap₂ with_subcommand third (ap top c.in_ok-sub_command-4.ensures.shape ∙ ap sub_shape c.ground.ensures) in
-    c.in_ok-subcommand.ensures.shape c.in_ok-sub_command-5.ensures.local ∙ ap₂ with_subcommand fourth (ap top c.in_ok-sub_command-5.ensures.shape ∙ ap sub_shape c.bench.ensures)
+    let fifth = c.in_ok-fifth.ensures.shape c.in_ok-sub_command-5.ensures.local ∙ ap₂ with_subcommand fourth (ap top c.in_ok-sub_command-5.ensures.shape ∙ ap sub_shape c.bench.ensures) in
+    let sixth = c.in_ok-sixth.ensures.shape c.in_ok-sub_command-6.ensures.local ∙ ap₂ with_subcommand fifth (ap top c.in_ok-sub_command-6.ensures.shape ∙ ap sub_shape c.merge.ensures) in
+    c.in_ok-subcommand.ensures.shape c.in_ok-sub_command-7.ensures.local ∙ ap₂ with_subcommand sixth (ap top c.in_ok-sub_command-7.ensures.shape ∙ ap sub_shape c.walk.ensures)
