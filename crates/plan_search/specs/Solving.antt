@@ -1,5 +1,5 @@
 -- What a request asks of a solver, and what is told of what it left.
---     solver_effort effort, solver_sizes sizes
+--     solver_ends ends, solver_effort effort, solver_sizes sizes
 --                                    the same for the solver
 --     all_ids sizes                  how many ids the table has
 --     told_of g effort sizes left    what is told of a search that left this
@@ -10,12 +10,16 @@
 use Rattle.std.specs.Prelude.{◌≡◌, ◌⊎◌, ℕ, ◌+◌, ◌<◌, length}
 use Rattle.ground_model.specs.Ground.{Ground}
 use Rattle.certificate.specs.Content.{Content, text_of, most_bytes}
+use Rattle.brtdp_trial.specs.declared.ending.Ends as trial
+use Rattle.brtdp_trial.specs.declared.ending.Ends.TheVariants as To
 use Rattle.trial_workers.specs.declared.effort.Effort as workers
 use Rattle.plan_search.specs.declared.solver.sizes.Sizes as solver
 use Rattle.plan_search.specs.declared.solver.closing.Closing.{Closing}
 use Rattle.plan_search.specs.solver.Solved.{IsSolved}
 use Rattle.plan_report.specs.certificates.Certificates.{IsCertificateOf}
 use Rattle.plan_request.specs.declared.effort.Effort.{Effort}
+use Rattle.plan_request.specs.declared.ends.Ends.{Ends}
+use Rattle.plan_request.specs.declared.ends.Ends.TheVariants as request
 use Rattle.plan_request.specs.declared.sizes.Sizes.{Sizes}
 use Rattle.plan_report.specs.Solved.{Solved, solved_of}
 use Rattle.plan_request.specs.declared.stop.Stop.{Stop}
@@ -23,6 +27,10 @@ use Rattle.plan_request.specs.declared.stop.Stop.TheVariants.{NoMemory, Limit}
 use Rattle.plan_search.specs.declared.answer.Answer.{Answer}
 use Rattle.plan_search.specs.declared.found.Found.{Found}
 use Rattle.plan_search.specs.Answers.{IsAnswerOf}
+
+abbrev pub solver_ends : Ends → trial.Ends
+solver_ends request.Depth = To.Depth
+solver_ends request.New = To.New
 
 abbrev pub solver_effort : Effort → workers.Effort
 solver_effort e = record {
@@ -32,6 +40,7 @@ solver_effort e = record {
   depth = e.depth;
   tau = e.tau;
   seed = e.seed;
+  ends = solver_ends e.ends;
 }
 
 abbrev pub solver_sizes : Sizes → solver.Sizes

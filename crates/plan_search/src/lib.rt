@@ -5,6 +5,7 @@
 mod answer;
 mod answering;
 mod found;
+mod laws;
 mod measured;
 mod service;
 mod serving;
@@ -14,6 +15,7 @@ mod terms;
 mod under;
 
 pub use answer::Answer;
+pub use laws::under_laws;
 pub use measured::Measured;
 pub use serving::serve;
 pub use solver::{Effort, Opening, Sizes, finish, make_crew, open, search_laws};

@@ -2,9 +2,19 @@
 
 ghost use Rattle.std.specs.Prelude.{◌≡◌};
 ghost use Rattle.plan_request.specs.Laws.{AreSizes};
-ghost use Rattle.plan_search.specs.Solving.{solver_effort, solver_sizes, all_ids};
+ghost use Rattle.plan_search.specs.Solving.{solver_effort, solver_ends, solver_sizes, all_ids};
 
-use plan_request::{Effort, Sizes};
+use plan_request::{Effort, Ends, Sizes};
+
+/// Where the trials of a solver end.
+fn solver_ends(ends: Ends) -> brtdp_trial::Ends
+    ensures { result ≡ solver_ends ends }
+{
+    match ends {
+        Ends::Depth => brtdp_trial::Ends::Depth,
+        Ends::New => brtdp_trial::Ends::New,
+    }
+}
 
 /// When a solver ends, and what its trials are.
 pub(crate) fn solver_effort(effort: &Effort) -> trial_workers::Effort
@@ -17,6 +27,7 @@ pub(crate) fn solver_effort(effort: &Effort) -> trial_workers::Effort
         depth: effort.depth,
         tau: effort.tau,
         seed: effort.seed,
+        ends: solver_ends(effort.ends),
     }
 }
 
