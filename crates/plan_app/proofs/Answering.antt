@@ -5,31 +5,35 @@ use Rattle.std.specs.Borrow.{Bor}
 use Rattle.shelf_io.specs.Causes.{Rose}
 use Rattle.shelf_io.specs.Shelf.{Told}
 use Rattle.certificate.specs.Content.{Content}
-use Rattle.certificate_check.specs.Codes.{number_of, row_of}
 use Rattle.ground_model.specs.Ground.{Ground}
-use Rattle.plan_request.specs.declared.effort.Effort.{Effort}
-use Rattle.plan_request.specs.declared.sizes.Sizes.{Sizes}
-use Rattle.plan_request.specs.Asked.{Sources, Solving, Asked, to_solve, to_check, to_serve, to_ground, to_bench}
+use Rattle.plan_request.specs.Asked.{Sources, Solving, Merging, Asked, to_solve, to_check, to_serve, to_ground, to_bench, to_merge, to_walk}
 use Rattle.plan_request.specs.Laws.{IsInRange}
+use Rattle.plan_report.specs.Reports.{accepted_text}
 use Rattle.plan_search.specs.declared.answer.Answer.{Answer}
+use Rattle.plan_search.specs.Answers.{IsTooLong}
 use Rattle.plan_search.specs.Under.{IsAnswerWith}
 use Rattle.plan_search.specs.Serving.{stop_of, IsServiceOf}
 use Rattle.policy_server.specs.declared.serve_end.ServeEnd.{ServeEnd}
 use Rattle.policy_server.specs.Replies.{Reply}
 use Rattle.policy_server.specs.Serving.{input}
 use Rattle.plan_request.specs.declared.stop.Stop.{Stop}
-use Rattle.plan_request.specs.declared.stop.Stop.TheVariants.{BadWords, ReadFailed, WriteFailed, NoMemory, Refused, NotAccepted, Limit}
+use Rattle.plan_request.specs.declared.stop.Stop.TheVariants.{BadWords, ReadFailed, WriteFailed, NoMemory, Refused, NotAccepted, SecondNotAccepted, Limit}
 use Rattle.plan_request.specs.stop.Stop.{Ending, ending_status, status_of}
 use Rattle.plan_sources.specs.Problems.{problem_of}
-use Rattle.plan_sources.specs.Sources.{certificate_in}
 use Rattle.plan_sources.specs.Laws.{IsOfTexts, TextsStopSo}
 use Rattle.bench_line.specs.Laws.{LineIsGrounded}
 use Rattle.plan_app.specs.Measuring.{line_sources}
-use Rattle.plan_app.specs.Asking.{Asks, AsksToSearch}
-use Rattle.plan_app.specs.Endings.{said_by, IsJudged, IsTooLongSo, Exchange, exchange, AnswersLine, AnswersCheck, AnswersSearch, AnswersSolve, reported, Lacks, Answers, EndsBehind, Faults, MayEndRequest, HasService, MayEndWords}
+use Rattle.plan_app.specs.declared.pair.Pair.{Pair}
+use Rattle.plan_app.specs.Asking.{Asks, AsksToWrite}
+use Rattle.plan_app.specs.Judging.{IsJudged, said_of}
+use Rattle.plan_app.specs.Merging.{IsPair}
+use Rattle.plan_app.specs.Walking.{walked_text}
+use Rattle.plan_app.specs.Endings.{said_by, Exchange, exchange, AnswersLine, AnswersJudged, AnswersWritten, AnswersSearch, AnswersSolve, AnswersPair, AnswersMerge, reported, Lacks, Answers, EndsBehind, Faults, MayEndRequest, HasService, MayEndWords}
 use Rattle.plan_app.specs.Verdicts.{answers_to, IsAnswerTo}
 use Rattle.plan_app.proofs.Exchanges.{stops_by_fault, take_rose}
-use Rattle.plan_app.proofs.Verdict.{IsOfCertificate, certificate_stops, said_status, said_by_status}
+use Rattle.plan_app.proofs.Judged.{IsOfCertificate, certificate_status, judged_stops}
+use Rattle.plan_app.proofs.Pairing.{pair_stops}
+use Rattle.plan_app.proofs.Verdict.{said_by_status, limit_status}
 
 -- among the statuses l
 module _ (l : List ℕ) where
@@ -53,43 +57,39 @@ module _ (l : List ℕ) where
     text_stop WriteFailed so = absurd so
     text_stop NoMemory so = absurd so
     text_stop (NotAccepted code row) so = absurd so
+    text_stop (SecondNotAccepted code row) so = absurd so
 
     certificate_stop : Contains l 7 → (stop : Stop) → IsOfCertificate stop → Among (Err stop)
-    certificate_stop seven (NotAccepted code row) so = seven
-    certificate_stop seven NoMemory so = five
-    certificate_stop seven (Refused code file line) so = absurd so
-    certificate_stop seven (Limit code most) so = absurd so
-    certificate_stop seven BadWords so = absurd so
-    certificate_stop seven ReadFailed so = absurd so
-    certificate_stop seven WriteFailed so = absurd so
-
-    too_long : (g : Ground) (effort : Effort) (sizes : Sizes) (e : Ending) → IsTooLongSo g effort sizes e → Among e
-    too_long g effort sizes e (stop, long, says) = subst Among says (subst (Contains l) (sym (ap status_of long.stop_is)) eight)
+    certificate_stop seven stop so = elim (certificate_status stop so) [
+      | inl is ↦ subst (Contains l) (sym is) seven
+      | inr is ↦ subst (Contains l) (sym is) five
+    ]
 
     texts_stop : TextsStopSo → (s : Sources) (stop : Stop) (e : Ending) → IsOfTexts stop → Err stop ≡ e → Among e
     texts_stop stops s stop e so says = subst Among says (text_stop stop so)
 
-    judged : Contains l 0 → Contains l 7 → (g : Ground) (r : Result Content Stop) (bytes : List ℕ) → certificate_in bytes ≡ r → (e : Ending)
-        → IsJudged g r e → Among e
-    judged zero seven g (Ok c) bytes read e (v, so, says) =
-        subst Among says
-        (elim (said_status c (row_of v) (number_of v)) [
-          | inl is ↦ subst (Contains l) (sym is) zero
-          | inr is ↦ subst (Contains l) (sym is) seven
-        ])
-    judged zero seven g (Err stop) bytes read e says =
-        subst Among says (certificate_stop seven stop (certificate_stops bytes stop read))
+    judged : Contains l 0 → Contains l 7 → (g : Ground) (told : Told) (text : Content → List ℕ) (r : Result Content Stop) → IsJudged g told r
+        → (e : Ending) → said_of text r ≡ e → Among e
+    judged zero seven g told text (Ok c) is e says = subst Among says zero
+    judged zero seven g told text (Err stop) is e says = subst Among says (certificate_stop seven stop (judged_stops g told stop is))
 
 module _ {S I : Type 0} (held : S → List ℕ → Told) (reads writes : S → ℕ) (takes : I → ℕ) (old new : S) (from to : I) (stops : TextsStopSo)
     (lines : LineIsGrounded) where
+  -- a certificate that is written
+  written_answers : (l : List ℕ) → Contains l 0 → Contains l 1 → Contains l 8 → (name : List ℕ) (Is : Answer → Type 0) (Above : Stop → Type 0)
+      → ((stop : Stop) → Above stop → status_of stop ≡ 8) → (e : Ending) → (Rose (writes old) (writes new) → ⊥)
+      → AnswersWritten held writes old new name Is Above e → Among l e
+  written_answers l zero one eight name Is Above so e no_rise (inl wrote) = searched l zero one wrote.answer.converged _ e wrote.says
+  written_answers l zero one eight name Is Above so e no_rise (inr (inl (stop, above, says))) =
+      subst (Among l) says (subst (Contains l) (sym (so stop above)) eight)
+  written_answers l zero one eight name Is Above so e no_rise (inr (inr (says, rose))) = absurd (no_rise rose)
+
   -- a search has the same answers with a server and without
   search_answers : (s : Solving) (g : Ground) (Is : Answer → Type 0) (e : Ending) → (Rose (writes old) (writes new) → ⊥)
       → AnswersSearch held writes old new s g Is e → IsAnswerTo (to_solve s) (ending_status e)
-  search_answers s g Is e no_rise (inl wrote) =
-      searched (answers_to (to_solve s)) (0, omega arith, refl) (1, omega arith, refl) wrote.answer.converged _ e wrote.says
-  search_answers s g Is e no_rise (inr (inl long)) =
-      too_long (answers_to (to_solve s)) (2, omega arith, refl) (3, omega arith, refl) (4, omega arith, refl) g s.effort s.sizes e long
-  search_answers s g Is e no_rise (inr (inr (says, rose))) = absurd (no_rise rose)
+  search_answers s g Is e no_rise answers =
+      written_answers (answers_to (to_solve s)) (0, omega arith, refl) (1, omega arith, refl) (4, omega arith, refl) s.certificate Is
+      (IsTooLong g s.effort s.sizes) (λ stop long. ap status_of long.stop_is) e no_rise answers
 
   solve_answers : (s : Solving) (r : Result Ground Stop) (e : Ending) → ((stop : Stop) → r ≡ Err stop → IsOfTexts stop)
       → (Rose (writes old) (writes new) → ⊥) → AnswersSolve held writes old new s r e → IsAnswerTo (to_solve s) (ending_status e)
@@ -98,13 +98,36 @@ module _ {S I : Type 0} (held : S → List ℕ → Told) (reads writes : S → �
       texts_stop (answers_to (to_solve s)) (2, omega arith, refl) (3, omega arith, refl) (4, omega arith, refl) stops s.sources stop e
       (so stop refl) says
 
-  check_answers : (s : Sources) (name : List ℕ) (r : Result Ground Stop) (e : Ending) → ((stop : Stop) → r ≡ Err stop → IsOfTexts stop)
-      → AnswersCheck (held old) name r e → IsAnswerTo (to_check s name) (ending_status e)
-  check_answers s name (Ok g) e so (rc, (bytes, holds, read), is) =
+  -- `merge` and `walk` have the same statuses as `check`
+  check_answers : (s : Sources) (name : List ℕ) (text : Ground → Content → List ℕ) (r : Result Ground Stop) (e : Ending)
+      → ((stop : Stop) → r ≡ Err stop → IsOfTexts stop) → AnswersJudged (held old) name text r e → IsAnswerTo (to_check s name) (ending_status e)
+  check_answers s name text (Ok g) e so (rc, is, says) =
       judged (answers_to (to_check s name)) (1, omega arith, refl) (2, omega arith, refl) (4, omega arith, refl)
-      (0, omega arith, refl) (3, omega arith, refl) g rc bytes read e is
-  check_answers s name (Err stop) e so says =
+      (0, omega arith, refl) (3, omega arith, refl) g (held old name) (text g) rc is e says
+  check_answers s name text (Err stop) e so says =
       texts_stop (answers_to (to_check s name)) (1, omega arith, refl) (2, omega arith, refl) (4, omega arith, refl) stops s stop e
+      (so stop refl) says
+
+  -- what is written of two certificates has status 0
+  pair_answers : (m : Merging) (g : Ground) (r : Result Pair Stop) → IsPair g (held old m.first) (held old m.second) r → (e : Ending)
+      → (Rose (writes old) (writes new) → ⊥) → AnswersPair held writes old new m g r e → IsAnswerTo (to_merge m) (ending_status e)
+  pair_answers m g (Ok p) pair e no_rise (inl wrote) =
+      subst (Among (answers_to (to_merge m))) wrote.says
+      (subst (λ b. Among (answers_to (to_merge m)) (Ok (said_by b wrote.answer.report))) (sym wrote.is_answer.converged) (0, omega arith, refl))
+  pair_answers m g (Ok p) pair e no_rise (inr (inl (stop, above, says))) =
+      subst (Among (answers_to (to_merge m))) says
+      (subst (Contains (answers_to (to_merge m))) (sym (limit_status g p.first p.second stop above)) (4, omega arith, refl))
+  pair_answers m g (Ok p) pair e no_rise (inr (inr (says, rose))) = absurd (no_rise rose)
+  pair_answers m g (Err stop) pair e no_rise says =
+      subst (Among (answers_to (to_merge m))) says
+      (certificate_stop (answers_to (to_merge m)) (1, omega arith, refl) (2, omega arith, refl) (4, omega arith, refl) (3, omega arith, refl)
+      stop (pair_stops g (held old m.first) (held old m.second) stop pair))
+
+  merge_answers : (m : Merging) (r : Result Ground Stop) (e : Ending) → ((stop : Stop) → r ≡ Err stop → IsOfTexts stop)
+      → (Rose (writes old) (writes new) → ⊥) → AnswersMerge held writes old new m r e → IsAnswerTo (to_merge m) (ending_status e)
+  merge_answers m (Ok g) e so no_rise (r, pair, answers) = pair_answers m g r pair e no_rise answers
+  merge_answers m (Err stop) e so no_rise says =
+      texts_stop (answers_to (to_merge m)) (1, omega arith, refl) (2, omega arith, refl) (4, omega arith, refl) stops m.sources stop e
       (so stop refl) says
 
   ground_answers : (s : Sources) (r : Result Ground Stop) (e : Ending) → ((stop : Stop) → r ≡ Err stop → IsOfTexts stop)
@@ -127,7 +150,8 @@ module _ {S I : Type 0} (held : S → List ℕ → Told) (reads writes : S → �
       → (Faults reads writes takes old new from to q → ⊥) → IsAnswerTo q (ending_status e)
   answers_among (to_solve s) e within (r, (t, are, is), rest) faults =
       solve_answers s r e (so_stopped s.sources t r is) (λ rose. faults (inr rose)) rest
-  answers_among (to_check s name) e within (r, (t, are, is), rest) faults = check_answers s name r e (so_stopped s t r is) rest
+  answers_among (to_check s name) e within (r, (t, are, is), rest) faults =
+      check_answers s name (λ _. accepted_text) r e (so_stopped s t r is) rest
   answers_among (to_serve s) e within (stop, (t, are, is), says) faults =
       texts_stop (answers_to (to_serve s)) (2, omega arith, refl) (3, omega arith, refl) (4, omega arith, refl) stops s.sources stop e
       (stops s.sources t stop is) says
@@ -135,6 +159,10 @@ module _ {S I : Type 0} (held : S → List ℕ → Told) (reads writes : S → �
   answers_among (to_bench places seed) e within (r, is, rest) faults =
       let (g, grounded) = lines line_sources refl places seed within.0.0 within.0.1 in
       line_answers places seed r e (g, sym is ∙ grounded) rest
+  answers_among (to_merge m) e within (r, (t, are, is), rest) faults =
+      merge_answers m r e (so_stopped m.sources t r is) (λ rose. faults (inr rose)) rest
+  answers_among (to_walk w) e within (r, (t, are, is), rest) faults =
+      check_answers w.sources w.certificate (walked_text w) r e (so_stopped w.sources t r is) rest
 
   memory_among : (q : Asked) → IsAnswerTo q 5
   memory_among (to_solve s) = (2, omega arith, refl)
@@ -142,6 +170,8 @@ module _ {S I : Type 0} (held : S → List ℕ → Told) (reads writes : S → �
   memory_among (to_serve s) = (2, omega arith, refl)
   memory_among (to_ground s) = (1, omega arith, refl)
   memory_among (to_bench places seed) = (2, omega arith, refl)
+  memory_among (to_merge m) = (1, omega arith, refl)
+  memory_among (to_walk w) = (1, omega arith, refl)
 
   reads_rose : (q : Asked) → Rose (reads old) (reads new) → Faults reads writes takes old new from to q
   reads_rose (to_solve s) rose = inl rose
@@ -149,6 +179,8 @@ module _ {S I : Type 0} (held : S → List ℕ → Told) (reads writes : S → �
   reads_rose (to_serve s) rose = inl rose
   reads_rose (to_ground s) rose = rose
   reads_rose (to_bench places seed) rose = rose
+  reads_rose (to_merge m) rose = inl rose
+  reads_rose (to_walk w) rose = rose
 
   -- a request that met no fault has an answer
   answer_for : (q : Asked) (e : Ending) → IsInRange q → MayEndRequest held reads writes old new q e → (Lacks (held old) q → ⊥)
@@ -158,6 +190,7 @@ module _ {S I : Type 0} (held : S → List ℕ → Told) (reads writes : S → �
   answer_for q (Err WriteFailed) within ends lacks faults = answers_among q (Err WriteFailed) within ends faults
   answer_for q (Err (Refused code file line)) within ends lacks faults = answers_among q (Err (Refused code file line)) within ends faults
   answer_for q (Err (NotAccepted code row)) within ends lacks faults = answers_among q (Err (NotAccepted code row)) within ends faults
+  answer_for q (Err (SecondNotAccepted code row)) within ends lacks faults = answers_among q (Err (SecondNotAccepted code row)) within ends faults
   answer_for q (Err (Limit code most)) within ends lacks faults = answers_among q (Err (Limit code most)) within ends faults
   answer_for q (Err NoMemory) within ends lacks faults = memory_among q
   answer_for q (Err ReadFailed) within (inl missing) lacks faults = absurd (lacks missing)
@@ -197,14 +230,18 @@ module _ {S I : Type 0} (held : S → List ℕ → Told) (reads writes : S → �
   answer_with (to_check s name) e within (inr service) lacks faults written = absurd service
   answer_with (to_ground s) e within (inr service) lacks faults written = absurd service
   answer_with (to_bench places seed) e within (inr service) lacks faults written = absurd service
+  answer_with (to_merge m) e within (inr service) lacks faults written = absurd service
+  answer_with (to_walk w) e within (inr service) lacks faults written = absurd service
 
 -- a certificate that was not written is a fault of its request
 pub write_rose : {S I : Type 0} (reads writes : S → ℕ) (takes : I → ℕ) (old new : S) (from to : I) (words : List (Bor (List ℕ)))
-    (q : Asked) → Asks words q → (s : Solving) → AsksToSearch words s → Rose (writes old) (writes new)
-    → Faults reads writes takes old new from to q
-write_rose reads writes takes old new from to words q asks s (inl solves) rose =
+    (q : Asked) → Asks words q → AsksToWrite words → Rose (writes old) (writes new) → Faults reads writes takes old new from to q
+write_rose reads writes takes old new from to words q asks (inl (s, inl solves)) rose =
     let same : to_solve s ≡ q = cc (asks, solves) in
     subst (Faults reads writes takes old new from to) same (inr rose)
-write_rose reads writes takes old new from to words q asks s (inr serves) rose =
+write_rose reads writes takes old new from to words q asks (inl (s, inr serves)) rose =
     let same : to_serve s ≡ q = cc (asks, serves) in
     subst (Faults reads writes takes old new from to) same (inr (inl rose))
+write_rose reads writes takes old new from to words q asks (inr (m, merges)) rose =
+    let same : to_merge m ≡ q = cc (asks, merges) in
+    subst (Faults reads writes takes old new from to) same (inr rose)

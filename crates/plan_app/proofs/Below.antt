@@ -16,7 +16,6 @@ use Rattle.decision_process.specs.Readings.{Row, Certificate, row_at, low, high,
 use Rattle.decision_process.specs.homomorphism.Homomorphism.{AreReadingsOf}
 use Rattle.decision_process.specs.homomorphism.Counterparts.{IsRowOf}
 use Rattle.decision_process.specs.under.Under.{IsUnder, AreBelowPlans, under_mean}
-use Rattle.decision_process.proofs.lemmas.under.Values.{zero_is_under}
 use Rattle.decision_process.proofs.lemmas.under.Means.{under_mean_is_below_plans, under_mean_is_higher}
 use Rattle.decision_process.proofs.lemmas.under.Carried.{under_is_carried, under_mean_is_carried}
 use Rattle.ppddl_model.specs.declared.tree.Task.{Task}
@@ -29,12 +28,14 @@ use Rattle.ground_model.specs.Steps.{ground_process, ground_starts}
 use Rattle.ground_meaning.specs.stands.Stands.{IsInside, state_of, packed_of, by_atoms, IsGroundOf}
 use Rattle.ground_meaning.proofs.lemmas.stands.Standing.{is_carried, starts_are_carried, weights_are_positive, states_are_found}
 use Rattle.lower_seed.specs.Costs.{least_choice, cost_value}
-use Rattle.lower_seed.proofs.LeastCosts.{least_choice_is_under}
-use Rattle.plan_search.specs.Under.{under_cost}
+use Rattle.plan_request.specs.declared.lower.Lower.{Lower}
+use Rattle.plan_request.specs.declared.lower.Lower.TheVariants as lowers
+use Rattle.plan_search.specs.Under.{IsKnown, IsUnderBy}
+use Rattle.plan_search.proofs.Known.{known_is_under}
 use Rattle.plan_app.specs.certificates.Carried.{task_certificate}
 use Rattle.plan_app.specs.certificates.Named.{names_certificate}
 use Rattle.plan_app.specs.certificates.Laws as laws
-use Rattle.plan_app.specs.Below.{step_value, IsToldBelow}
+use Rattle.plan_app.specs.Below.{step_value, IsToldBelow, IsToldByCost}
 use Rattle.plan_app.proofs.Named.{names_balanced}
 
 -- ---- texts behind texts
@@ -100,17 +101,18 @@ module _ (g : Ground) (task : Task) (charges : Charges) (stands : IsGroundOf g t
       let is = is_carried g task charges stands in
       λ j. cond (is.goals s inside j) 0 (min (is.penalties j) (least_choice g))
 
-  known_here : (s : packed.State) → IsUnder (ground_process g) (cost_value g s) s
-  known_here s =
-      (elim ((ground_process g).goal s)
-      as (λ b. (ground_process g).goal s ≡ b → IsUnder (ground_process g) (cond b 0 (min g.penalty (least_choice g))) s) [
-        | true ↦ λ on. zero_is_under (ground_process g) s
-        | false ↦ λ off. least_choice_is_under g stands.is_problem s off
-      ]) refl
+  -- ---- what is known by what is asked for
 
-  known_there : (x : Start State) → Contains (starts task) x
-      → CoversFromBelow (process task charges) (step_value task charges (least_choice g) x.state) x.state
-  known_there x inside =
+  -- values of the ground problem, as values of the task
+  abbrev carried_value : (packed.State → ℕ) → State → ℕ
+  carried_value value t = value (packed_of g task t)
+
+  carried_reads : (value : packed.State → ℕ) → AreReadingsOf (by_atoms g task) value (carried_value value)
+  carried_reads value s inside = sym (ap value (states_are_found g task charges stands s inside))
+
+  known_there : (lower : Lower) (value : packed.State → ℕ) → ((s : packed.State) → IsKnown lower g s (value s))
+      → (x : Start State) → Contains (starts task) x → CoversFromBelow (process task charges) (carried_value value x.state) x.state
+  known_there lower value known x inside =
       let are = starts_are_carried g task charges stands in
       let found = alike_has_member (λ (x : Start State). x.weight) (λ (x : Start State). x.state)
       (λ (x : Start packed.State). x.weight) (λ (x : Start packed.State). state_of g task x.state) same_state states_are_exact
@@ -121,10 +123,11 @@ module _ (g : Ground) (task : Task) (charges : Charges) (stands : IsGroundOf g t
       let s : packed.State = found.0.state in
       let valid : IsInside g task s = are.is_valid found.0 found.1 in
       let at : state_of g task s ≡ x.state = sym found.2 in
-      let there : IsUnder (process task charges) (cost_value g s) (state_of g task s)
-      = (under_is_carried (ground_process g) (process task charges) (by_atoms g task) (is_carried g task charges stands) s valid (cost_value g s)).0 (known_here s) in
-      subst (λ t. CoversFromBelow (process task charges) (step_value task charges (least_choice g) t) t) at
-      (subst (λ v. CoversFromBelow (process task charges) v (state_of g task s)) (same_value s valid) there.1)
+      let there : IsUnder (process task charges) (value s) (state_of g task s)
+      = (under_is_carried (ground_process g) (process task charges) (by_atoms g task) (is_carried g task charges stands) s valid (value s)).0
+      (known_is_under lower g stands.is_problem s (value s) (known s)) in
+      subst (λ t. CoversFromBelow (process task charges) (carried_value value t) t) at
+      (subst (λ v. CoversFromBelow (process task charges) v (state_of g task s)) (carried_reads value s valid) there.1)
 
   -- ---- the mean
 
@@ -137,24 +140,32 @@ module _ (g : Ground) (task : Task) (charges : Charges) (stands : IsGroundOf g t
         same_low s inside (ground_certificate g c).rows (task_certificate g task c).rows (certified g task charges stands c).rows
         ∙ ap (λ (x : Certificate State Instance). low same_state x.rows (state_of g task s)) (names g task charges stands c for)
 
-    same_mean : under_cost g (ground_certificate g c).rows
-        ≡ under_mean low_there (step_value task charges (least_choice g)) (starts task) (start_den task)
-    same_mean =
+    -- the mean is the same at the task, by values that are
+    same_mean : (value : packed.State → ℕ) (value' : State → ℕ) → AreReadingsOf (by_atoms g task) value value'
+        → under_mean (low packed.same_state (ground_certificate g c).rows) value (ground_starts g) g.start_den
+        ≡ under_mean low_there value' (starts task) (start_den task)
+    same_mean value value' same =
         under_mean_is_carried (by_atoms g task) (ground_starts g) g.start_den (starts task) (start_den task) (starts_are_carried g task charges stands)
-        (low packed.same_state (ground_certificate g c).rows) (cost_value g) low_there (step_value task charges (least_choice g)) same_lows same_value
+        (low packed.same_state (ground_certificate g c).rows) value low_there value' same_lows same
 
-    pub told_below : IsToldBelow g task charges c (under_cost g (ground_certificate g c).rows)
-    told_below =
-        let value : State → ℕ = step_value task charges (least_choice g) in
+    pub told_below : (lower : Lower) (l : ℕ) → IsUnderBy lower g (ground_certificate g c).rows l → IsToldBelow lower g task charges c l
+    told_below lower l below =
+        let value : State → ℕ = carried_value below.value in
+        let at_task : l ≡ under_mean low_there value (starts task) (start_den task) = below.mean ∙ same_mean below.value value (carried_reads below.value) in
         let balanced = names_balanced names g task charges stands c for carried in
         record {
-          mean = same_mean;
-          mean_of_problem = refl;
-          higher = subst (λ n. c.lower ≤ n) (sym same_mean)
+          mean_of_problem = below;
+          higher = subst (λ n. c.lower ≤ n) (sym at_task)
               (subst (λ n. n ≤ under_mean low_there value (starts task) (start_den task)) (sym balanced.interval.floor_of_low)
               (under_mean_is_higher low_there value (starts task) (start_den task)));
-          plans = subst (AreBelowPlans (process task charges) (starts task) (start_den task)) (sym same_mean)
+          plans = subst (AreBelowPlans (process task charges) (starts task) (start_den task)) (sym at_task)
               (under_mean_is_below_plans (process task charges) (is_carried g task charges stands).den_positive_there low_there
               (high (process task charges) same_state (names_certificate task c).rows) (act same_state (names_certificate task c).rows)
-              balanced.balanced value (starts task) (start_den task) known_there);
+              balanced.balanced value (starts task) (start_den task) (known_there lower below.value below.known));
         }
+
+    pub told_by_cost : (l : ℕ) → IsUnderBy lowers.Cost g (ground_certificate g c).rows l → IsToldByCost g task charges c l
+    told_by_cost l below = record {
+      told = told_below lowers.Cost l below;
+      mean = below.mean ∙ same_mean below.value (step_value task charges (least_choice g)) (λ s inside. below.known s ∙ same_value s inside);
+    }

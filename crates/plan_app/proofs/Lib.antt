@@ -2,6 +2,8 @@ pub mod Asked
 pub mod Exchanges
 pub mod Flow
 pub mod Names
+pub mod Judged
+pub mod Pairing
 pub mod Verdict
 pub mod Named
 pub mod Answering
@@ -10,4 +12,7 @@ pub mod States
 pub mod Replies
 pub mod Below
 pub mod Solved
+pub mod Merged
+pub mod Numbered
+pub mod Walked
 pub mod lemmas

@@ -7,7 +7,7 @@ use Rattle.std.specs.Io.KnownBytes.{Appends, append_known}
 use Rattle.shelf_io.specs.Shelf.{Told, Untold, Missing, Holds, written}
 use Rattle.decision_process.specs.sweeps.Sweeps.{rounds_at}
 use Rattle.certificate.specs.Content.{Content, text_of, most_bytes}
-use Rattle.certificate_check.specs.Claims.{ground_certificate}
+use Rattle.certificate_check.specs.Claims.{ground_certificate, IsBalancedFor}
 use Rattle.decision_process.specs.Levels.{IsDepthWithin}
 use Rattle.decision_process.specs.Process.{Process, Start}
 use Rattle.decision_process.specs.Rounded.{plain_low, plain_high}
@@ -18,6 +18,7 @@ use Rattle.ground_meaning.specs.progress.Width.{IsNarrow}
 use Rattle.ground_meaning.specs.progress.Laws.{TaskIntervalNarrows}
 use Rattle.ground_model.specs.Ground.{Ground}
 use Rattle.ground_model.specs.Steps.{ground_process, ground_starts}
+use Rattle.ground_meaning.specs.stands.Stands.{IsGroundOf}
 use Rattle.ground_meaning.specs.stands.Laws.{IsCarried, StatesAreFound, NearIsCarried, NearIsFound, SameLeast, SamePlain, SameDepth}
 use Rattle.plan_app.specs.certificates.Laws.{IsCarried as CertificatesAreCarried, NamesAreCarried, BalanceIsCarried, TaskIsEnclosed, TaskPolicyEnds}
 use Rattle.plan_request.specs.declared.effort.Effort.{Effort}
@@ -33,7 +34,7 @@ use Rattle.plan_report.specs.Solved.{Solved}
 use Rattle.plan_search.specs.Found.{IsFound}
 use Rattle.plan_search.specs.declared.answer.Answer.{Answer}
 use Rattle.plan_search.specs.Answers.{IsAnswerOf}
-use Rattle.plan_search.specs.Under.{under_cost, with_report, IsAnswerWith}
+use Rattle.plan_search.specs.Under.{IsUnderBy, IsTold, under_lines, with_report, IsAnswerWith}
 use Rattle.plan_search.specs.Serving.{stop_of, IsServiceOf, KeepsEach}
 use Rattle.policy_server.specs.declared.serve_end.ServeEnd.{ServeEnd}
 use Rattle.policy_server.specs.declared.served.Served.{Served}
@@ -41,7 +42,7 @@ use Rattle.policy_server.specs.Replies.{Reply}
 use Rattle.policy_server.specs.Lines.{queries_of}
 use Rattle.policy_server.specs.Serving.{Input}
 use Rattle.plan_request.specs.declared.stop.Stop.{Stop}
-use Rattle.plan_request.specs.declared.stop.Stop.TheVariants.{BadWords, ReadFailed, WriteFailed, NoMemory, Refused, NotAccepted, Limit}
+use Rattle.plan_request.specs.declared.stop.Stop.TheVariants.{BadWords, ReadFailed, WriteFailed, NoMemory, Refused, NotAccepted, SecondNotAccepted, Limit}
 use Rattle.plan_request.specs.stop.Stop.{Ending, report_status, report_text, ending_status, ending_text, status_of}
 use Rattle.plan_sources.specs.declared.texts.Texts.{Texts}
 use Rattle.plan_sources.specs.Problems.{one_text, problem_of}
@@ -51,8 +52,8 @@ use Rattle.plan_app.specs.Measuring.{line_sources, line_problem, bench_effort, b
 use Rattle.plan_app.specs.Endings.{said_by, IsMeasured, exchange, Answered, AnswersLine, IsWritten, AnswersSearch, AnswersSolve, EndsBehind, HasService, MayEndAs}
 use Rattle.plan_app.specs.Verdicts.{TellsSearch, HasVerdict, HasReport}
 use Rattle.plan_app.specs.Solutions.{IsAsNarrowAsPlain, Solves, PutsSolution, PutsService, PutsMeasure}
-use Rattle.plan_app.specs.Below.{PutsBelow, PutsSolved}
-use Rattle.plan_app.proofs.Below.{appends_known, appends_rest, told_below}
+use Rattle.plan_app.specs.Below.{IsToldBelow, IsToldByCost, PutsBelow, PutsSolved}
+use Rattle.plan_app.proofs.Below.{appends_known, appends_rest, told_below, told_by_cost}
 use Rattle.plan_app.proofs.Named.{names_balanced, names_enclose, names_end}
 use Rattle.plan_app.proofs.Replies.{replies_tell}
 use Rattle.plan_app.proofs.States.{states_found}
@@ -129,11 +130,11 @@ said_status : (b : Bool) (text : List ℕ) (P Q : Type 0) → IsTrue b ↔ P →
 said_status true text P Q is also = ((λ zero. also.0 (is.0 refl)), (λ holds. refl))
 said_status false text P Q is also = ((λ one. absurd (omega (arith, one))), (λ holds. absurd (cc (is.1 (also.1 holds)))))
 
-said_text : (b : Bool) (text : List ℕ) → report_text (said_by b text) ≡ text
+pub said_text : (b : Bool) (text : List ℕ) → report_text (said_by b text) ≡ text
 said_text true text = refl
 said_text false text = refl
 
-told_written : (told : Told) (bytes : List ℕ) → told ≢ Untold → written told bytes ≡ Holds bytes
+pub told_written : (told : Told) (bytes : List ℕ) → told ≢ Untold → written told bytes ≡ Holds bytes
 told_written Untold bytes tells = absurd (tells refl)
 told_written Missing bytes tells = refl
 told_written (Holds before) bytes tells = refl
@@ -147,6 +148,7 @@ text_status ReadFailed so is = absurd so
 text_status WriteFailed so is = absurd so
 text_status NoMemory so is = absurd so
 text_status (NotAccepted code row) so is = absurd so
+text_status (SecondNotAccepted code row) so is = absurd so
 
 other_status : (n m : ℕ) → n ≡ m → 1 < m → HasReport n → ⊥
 other_status n m is high (inl zero) = omega (arith, is, high, zero)
@@ -265,32 +267,51 @@ module _ (stands : ProblemStands) (back : StatesAreFound) (near_carried : NearIs
           }
 
       -- what is told from below stands behind the report
-      below_of : (certified : CertificatesAreCarried) (a : Answer) (w : IsAnswerWith g s.effort s.sizes lowers.Cost a)
+      below_of : (lower : Lower) (Says : Ground → Task → Charges → Content → ℕ → Type 0)
+          → ((h : Ground) (task : Task) (charges : Charges) → IsGroundOf h task charges → (c : Content) → IsBalancedFor h c
+          → (l : ℕ) → IsUnderBy lower h (ground_certificate h c).rows l → Says h task charges c l)
+          → (a : Answer) (w : IsAnswerWith g s.effort s.sizes lower a) (l : ℕ) → w.told ≡ Some l
           → held new s.certificate ≡ written (held old s.certificate) a.certificate → Ok (said_by a.converged a.report) ≡ ends.ending
-          → (before now : Option (List ℕ)) → Appends before now a.report → PutsBelow s t status (held new s.certificate) before now
-      below_of certified a w holds says before now put =
+          → (before now : Option (List ℕ)) → Appends before now a.report → PutsBelow Says s t status (held new s.certificate) before now
+      below_of lower Says so a w l told holds says before now put =
           let has = solution_of (with_report a w.plain) w.is_answer holds a.report says [] before (append_known before w.plain)
           (appends_known before w.plain) in
           let found = has.solution.solves in
-          let whole = subst (Appends before now) w.behind put in
-          let line : Appends (append_known before w.plain) now (under_line (under_cost g (ground_certificate g w.is_answer.content).rows))
-          = appends_rest before now w.plain (under_line (under_cost g (ground_certificate g w.is_answer.content).rows)) whole in
+          let whole = subst (Appends before now) (w.behind ∙ ap (λ o. w.plain ++ under_lines o) told) put in
+          let here : IsUnderBy lower g (ground_certificate g w.is_answer.content).rows l =
+          subst (IsTold lower g (ground_certificate g w.is_answer.content).rows) told w.is_told in
+          let there : IsUnderBy lower found.g (ground_certificate found.g found.c).rows l =
+          subst (λ h. IsUnderBy lower h (ground_certificate h found.c).rows l) (sym has.same_problem)
+          (subst (λ c. IsUnderBy lower g (ground_certificate g c).rows l) (sym has.same_content) here) in
           record {
             middle = append_known before w.plain;
             solution = has.solution;
-            lower = under_cost found.g (ground_certificate found.g found.c).rows;
-            told = told_below found.g found.of_task.task found.of_task.charges found.of_task.stands found.c found.found.balanced certified names carried;
-            line = subst (Appends (append_known before w.plain) now)
-                (sym (λ j. under_line (under_cost (has.same_problem j) (ground_certificate (has.same_problem j) (has.same_content j)).rows))) line;
+            lower = l;
+            told = so found.g found.of_task.task found.of_task.charges found.of_task.stands found.c found.found.balanced l there;
+            line = appends_rest before now w.plain (under_line l) whole;
           }
+
+      solved_as : (certified : CertificatesAreCarried) (lower : Lower) (a : Answer) (w : IsAnswerWith g s.effort s.sizes lower a)
+          (told : Option ℕ) → w.told ≡ told → IsTold lower g (ground_certificate g w.is_answer.content).rows told
+          → held new s.certificate ≡ written (held old s.certificate) a.certificate → Ok (said_by a.converged a.report) ≡ ends.ending
+          → (before now : Option (List ℕ)) → Appends before now a.report → PutsSolved lower s t status (held new s.certificate) before now
+      solved_as certified lowers.None a w None told is holds says before now put =
+          (solution_of (with_report a w.plain) w.is_answer holds a.report says [] before now
+          (subst (Appends before now) (w.behind ∙ ap (λ o. w.plain ++ under_lines o) told ∙ append-nil w.plain) put)).solution
+      solved_as certified lowers.None a w (Some l) told is holds says before now put = absurd (is.known [])
+      solved_as certified lowers.Cost a w None told is holds says before now put = absurd (cc is)
+      solved_as certified lowers.Cost a w (Some l) told is holds says before now put =
+          below_of lowers.Cost IsToldByCost
+          (λ h task charges stands c for. told_by_cost h task charges stands c for certified names carried) a w l told holds says before now put
+      solved_as certified lowers.Relaxed a w None told is holds says before now put = absurd (cc is)
+      solved_as certified lowers.Relaxed a w (Some l) told is holds says before now put =
+          below_of lowers.Relaxed (IsToldBelow lowers.Relaxed)
+          (λ h task charges stands c for. told_below h task charges stands c for certified names carried lowers.Relaxed) a w l told holds says before now put
 
       solved_with : (certified : CertificatesAreCarried) (lower : Lower) (a : Answer) (w : IsAnswerWith g s.effort s.sizes lower a)
           → held new s.certificate ≡ written (held old s.certificate) a.certificate → Ok (said_by a.converged a.report) ≡ ends.ending
           → (before now : Option (List ℕ)) → Appends before now a.report → PutsSolved lower s t status (held new s.certificate) before now
-      solved_with certified lowers.None a w holds says before now put =
-          (solution_of (with_report a w.plain) w.is_answer holds a.report says [] before now
-          (subst (Appends before now) (w.behind ∙ append-nil w.plain) put)).solution
-      solved_with certified lowers.Cost a w holds says before now put = below_of certified a w holds says before now put
+      solved_with certified lower a w holds says before now put = solved_as certified lower a w w.told refl w.is_told holds says before now put
 
     module _ (s : Solving) (t : Texts) (are : AreTerms s.sources) (tells : held old s.certificate ≢ Untold) (before now : Option (List ℕ))
         (put : Appends before now text) (g : Ground) (gives : problem_of s.sources t ≡ Ok g) where

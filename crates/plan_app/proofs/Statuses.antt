@@ -5,18 +5,20 @@ use Rattle.std.specs.Borrow.{Bor}
 use Rattle.std.specs.Io.KnownBytes.{Appends}
 use Rattle.std.proofs.KnownBytes.{Appends-trans}
 use Rattle.shelf_io.specs.Causes.{Rose}
-use Rattle.shelf_io.specs.Shelf.{Told}
+use Rattle.shelf_io.specs.Shelf.{Told, Holds}
+use Rattle.certificate.specs.Content.{Content}
 use Rattle.certificate.specs.Laws.{TextsAreRead}
+use Rattle.certificate_check.specs.Claims.{IsBalancedFor}
 use Rattle.certificate_check.specs.Laws.{AcceptedIsBalanced}
 use Rattle.ppddl_model.specs.Laws.{WellFormedSums}
 use Rattle.ppddl_model.specs.declared.tree.Task.{Task}
 use Rattle.ground_model.specs.Ground.{Ground}
 use Rattle.plan_app.specs.certificates.Laws.{NamesAreCarried, BalanceIsCarried, TaskIsEnclosed, TaskPolicyEnds}
-use Rattle.plan_request.specs.Asked.{Sources, Solving, Asked, to_solve, to_check, to_serve, to_ground, to_bench}
+use Rattle.plan_request.specs.Asked.{Sources, Solving, Walking, Asked, to_solve, to_check, to_serve, to_ground, to_bench, to_merge, to_walk}
 use Rattle.plan_request.specs.Laws.{AreTerms}
 use Rattle.plan_request.specs.declared.stop.report.Report.TheVariants.{Done, GapLeft}
 use Rattle.plan_request.specs.declared.stop.Stop.{Stop}
-use Rattle.plan_request.specs.declared.stop.Stop.TheVariants.{BadWords, ReadFailed, WriteFailed, NoMemory, Refused, NotAccepted, Limit}
+use Rattle.plan_request.specs.declared.stop.Stop.TheVariants.{BadWords, ReadFailed, WriteFailed, NoMemory, Refused, NotAccepted, SecondNotAccepted, Limit}
 use Rattle.plan_request.specs.stop.Stop.{Ending, ending_status, ending_text, status_of}
 use Rattle.plan_search.specs.Serving.{stop_of}
 use Rattle.policy_server.specs.Replies.{Reply}
@@ -24,14 +26,16 @@ use Rattle.policy_server.specs.Serving.{Input}
 use Rattle.plan_sources.specs.declared.texts.Texts.{Texts}
 use Rattle.plan_sources.specs.Problems.{problem_of}
 use Rattle.plan_sources.specs.Sources.{MayGiveProblem}
-use Rattle.plan_sources.specs.Laws.{OneProblemIsTold, TextsStopSo, TextsAreRefusedSo, ProblemStands}
+use Rattle.plan_sources.specs.Laws.{HoldsTexts, OneProblemIsTold, TextsStopSo, TextsAreRefusedSo, ProblemStands}
 use Rattle.plan_app.specs.Asking.{asked_by, IsToServe, Asks, AsksNothing, AsksToServe}
 use Rattle.plan_app.specs.Endings.{Exchange, exchange, Lacks, Answers, EndsBehind, MayEndRequest, HasService, ServiceFor, MayEndWords, MayEndAs}
-use Rattle.plan_app.specs.Verdicts.{sources_of, TellsTexts, TellsGround, TellsCheck, HasVerdict, IsRefused, IsLimited, IsGrounded, IsAccepted, IsRejected, MayBeTooLong, PutsRefusal, PutsProblem, PutsReport}
+use Rattle.plan_report.specs.Reports.{accepted_text}
+use Rattle.plan_app.specs.Walking.{walked_text}
+use Rattle.plan_app.specs.Verdicts.{sources_of, TellsTexts, TellsGround, TellsCheck, TellsWalk, TellsJudged, HasVerdict, IsDecoded, IsRefused, IsLimited, IsGrounded, IsTooLongFor, IsAccepted, IsRejected, MayBeTooLong, PutsRefusal, PutsProblem, PutsReport, EndsSoon}
 use Rattle.plan_app.specs.Putting.{PutsAnswers, PutsPart, IsSaid, SaysPut, SaysCutShort}
 use Rattle.plan_app.proofs.Exchanges.{prefix_behind, take_rose}
 use Rattle.plan_app.proofs.Named.{names_balanced, names_enclose, names_end}
-use Rattle.plan_app.proofs.Verdict.{IsLongFor, Leads, SaysOfTexts, said_by_status, leads, led_refused, service_led, answers_words, service_texts, service_words, unwritten, text_verdict, ground_verdict, ground_reported, check_verdict, check_reported}
+use Rattle.plan_app.proofs.Verdict.{CheckEnds, IsReported, Leads, SaysOfTexts, WritesAlone, said_by_status, leads, led_refused, service_led, answers_words, service_texts, service_words, unwritten, text_verdict, ground_verdict, ground_reported, check_verdict, check_reported}
 
 -- ---- endings of requests
 
@@ -48,6 +52,7 @@ module _ {S : Type 0} (held : S → List ℕ → Told) (reads writes : S → ℕ
   answered_so q (Err WriteFailed) ends verdict = ends
   answered_so q (Err (Refused code file line)) ends verdict = ends
   answered_so q (Err (NotAccepted code row)) ends verdict = ends
+  answered_so q (Err (SecondNotAccepted code row)) ends verdict = ends
   answered_so q (Err (Limit code most)) ends verdict = ends
   answered_so q (Err ReadFailed) ends verdict = absurd (verdict.no_read_fault refl)
   answered_so q (Err NoMemory) ends verdict = absurd (verdict.enough_memory refl)
@@ -65,9 +70,9 @@ module _ {S : Type 0} (held : S → List ℕ → Told) (reads writes : S → ℕ
   read_failed_so q (Ok (GapLeft text)) ends is = absurd (omega (arith, is))
   read_failed_so q (Err _) ends is = absurd (omega (arith, is))
 
-  -- a certificate that was not written is one of a search
+  -- a certificate that was not written
   write_failed_so : TextsStopSo → (q : Asked) (e : Ending) → e ≡ Err WriteFailed → MayEndRequest held reads writes old new q e
-      → (s : Solving) × (q ≡ to_solve s) × Rose (writes old) (writes new)
+      → WritesAlone (Some q) × Rose (writes old) (writes new)
   write_failed_so stops q e is ends =
       unwritten held writes old new stops q (subst (λ e. MayEndRequest held reads writes old new q e) is ends)
 
@@ -110,6 +115,8 @@ module _ {S : Type 0} (held : S → List ℕ → Told) (reads writes : S → ℕ
   service_to_serve (to_check s name) e service = absurd service
   service_to_serve (to_ground s) e service = absurd service
   service_to_serve (to_bench places seed) e service = absurd service
+  service_to_serve (to_merge m) e service = absurd service
+  service_to_serve (to_walk w) e service = absurd service
 
   read_failed_for : (asked : Option Asked) (e : Ending) → MayEndWords held reads writes old new x asked e → ending_status e ≡ 3
       → ((q : Asked) × (asked ≡ Some q) × Lacks (held old) q)
@@ -123,12 +130,11 @@ module _ {S : Type 0} (held : S → List ℕ → Told) (reads writes : S → ℕ
       inr (inr ((s, ap Some is), service_read_failed s e has three))
 
   pub write_failed_for : TextsStopSo → (asked : Option Asked) (e : Ending) → e ≡ Err WriteFailed → MayEndWords held reads writes old new x asked e
-      → IsToServe asked ⊎ ((s : Solving) × (asked ≡ Some (to_solve s)) × Rose (writes old) (writes new))
+      → IsToServe asked ⊎ (WritesAlone asked × Rose (writes old) (writes new))
   write_failed_for stops None e is (silent, inl bad) = absurd (cc (is, bad))
   write_failed_for stops None e is (silent, inr memory) = absurd (cc (is, memory))
   write_failed_for stops (Some q) e is (inl (silent, ends)) =
-      let so = write_failed_so held reads writes old new stops q e is ends in
-      inr (so.0, ap Some so.1, so.2)
+      inr (write_failed_so held reads writes old new stops q e is ends)
   write_failed_for stops (Some q) e is (inr service) =
       let so = service_to_serve q e service in
       inl (so.0, ap Some so.1)
@@ -147,6 +153,8 @@ module _ {S : Type 0} (held : S → List ℕ → Told) (reads writes : S → ℕ
   no_memory_for (to_check s name) e service = absurd service
   no_memory_for (to_ground s) e service = absurd service
   no_memory_for (to_bench places seed) e service = absurd service
+  no_memory_for (to_merge m) e service = absurd service
+  no_memory_for (to_walk w) e service = absurd service
 
   memory_may_end : (asked : Option Asked) (e : Ending) → MayEndWords held reads writes old new x asked e
       → MayEndWords held reads writes old new x asked (Err NoMemory)
@@ -202,33 +210,6 @@ module _ {S : Type 0} (held : S → List ℕ → Told) (reads writes : S → ℕ
 
 -- ---- the clauses of the top call
 
--- that a certificate is too long, of the request that asks for it
-too_long_for : (words : List (Bor (List ℕ))) (s : Sources) (t : Texts) (q : Asked) → Asks words q → sources_of q ≡ Some s
-    → (g : Ground) → problem_of s t ≡ Ok g → IsLongFor q g → MayBeTooLong words t
-too_long_for words s t (to_solve x) asks is g problem (stop, long) =
-    let same : x.sources ≡ s = cc is in
-    record {
-      solving = x;
-      asks = inl asks;
-      g = g;
-      problem = subst (λ y. problem_of y t ≡ Ok g) (sym same) problem;
-      stop = stop;
-      too_long = long;
-    }
-too_long_for words s t (to_check x name) asks is g problem long = absurd long
-too_long_for words s t (to_serve x) asks is g problem (stop, long) =
-    let same : x.sources ≡ s = cc is in
-    record {
-      solving = x;
-      asks = inr asks;
-      g = g;
-      problem = subst (λ y. problem_of y t ≡ Ok g) (sym same) problem;
-      stop = stop;
-      too_long = long;
-    }
-too_long_for words s t (to_ground x) asks is g problem long = absurd long
-too_long_for words s t (to_bench places seed) asks is g problem long = absurd (cc is)
-
 module _ {S : Type 0} {held : S → List ℕ → Told} {reads writes : S → ℕ} {words : List (Bor (List ℕ))} {old new : S} {from to : Input}
     {status : ℕ} {text : List ℕ} (ends : MayEndAs held reads writes words old new from to status text) where
   abbrev pub x : Exchange
@@ -237,7 +218,7 @@ module _ {S : Type 0} {held : S → List ℕ → Told} {reads writes : S → ℕ
   pub request_ends : (q : Asked) → Asks words q → MayEndWords held reads writes old new x (Some q) ends.ending
   request_ends q asks = subst (λ asked. MayEndWords held reads writes old new x asked ends.ending) asks ends.may_end
 
-  verdict_of : HasVerdict status → HasVerdict (ending_status ends.ending)
+  pub verdict_of : HasVerdict status → HasVerdict (ending_status ends.ending)
   verdict_of verdict = subst HasVerdict ends.status_is verdict
 
   -- a request that starts no server has no answers but its ending
@@ -252,16 +233,17 @@ module _ {S : Type 0} {held : S → List ℕ → Told} {reads writes : S → ℕ
   ]
 
   -- where the texts lead
-  led : (s : Sources) (q : Asked) → Asks words q → sources_of q ≡ Some s → HasVerdict status
-      → (r : Result Ground Stop) × MayGiveProblem (held old) s r × Leads (IsLongFor q) r ends.ending
-  led s q asks is verdict = elim (request_ends q asks) [
+  led : TextsAreRead → AcceptedIsBalanced → (s : Sources) (q : Asked) → Asks words q → sources_of q ≡ Some s → HasVerdict status
+      → (r : Result Ground Stop) × MayGiveProblem (held old) s r × Leads (IsTooLongFor q) r ends.ending
+  led law balance s q asks is verdict = elim (request_ends q asks) [
     | inl (silent, may_end) ↦
-        leads held writes old new s q is ends.ending (answered_so held reads writes old new q ends.ending may_end (verdict_of verdict))
+        leads held writes old new law balance s q is ends.ending
+        (answered_so held reads writes old new q ends.ending may_end (verdict_of verdict))
     | inr service ↦ service_led held reads writes old new x s q is ends.ending service
   ]
 
   -- what is exactly so of the status of the ending is so of the status
-  exactly : (n : ℕ) (P : Type 0) → (ending_status ends.ending ≡ n) ↔ P → (status ≡ n) ↔ P
+  pub exactly : (n : ℕ) (P : Type 0) → (ending_status ends.ending ≡ n) ↔ P → (status ≡ n) ↔ P
   exactly n P is = subst (λ m. (m ≡ n) ↔ P) (sym ends.status_is) is
 
   pub bad_words_exactly : TextsStopSo → status ≢ 5 → (status ≡ 2) ↔ AsksNothing words
@@ -274,7 +256,7 @@ module _ {S : Type 0} {held : S → List ℕ → Told} {reads writes : S → ℕ
   read_failed_only three =
       read_failed_for held reads writes old new x (asked_by words) ends.ending ends.may_end (sym ends.status_is ∙ three)
 
-  zero_is_a_verdict : status ≡ 0 → HasVerdict status
+  pub zero_is_a_verdict : status ≡ 0 → HasVerdict status
   zero_is_a_verdict zero = record {
     no_read_fault = λ e. omega (arith, e, zero);
     no_write_fault = λ e. omega (arith, e, zero);
@@ -296,11 +278,11 @@ module _ {S : Type 0} {held : S → List ℕ → Told} {reads writes : S → ℕ
   }
 
   module _ (told : OneProblemIsTold) (stops : TextsStopSo) (s : Sources) (t : Texts) where
-    module _ (tells : TellsTexts words (held old) s t) where
-      says : HasVerdict status → SaysOfTexts s t (IsLongFor tells.request) (ending_status ends.ending)
+    module _ (law : TextsAreRead) (balance : AcceptedIsBalanced) (tells : TellsTexts words (held old) s t) where
+      says : HasVerdict status → SaysOfTexts s t (IsTooLongFor tells.request) (ending_status ends.ending)
       says verdict =
           text_verdict (held old) told stops s t tells.texts tells.request ends.ending
-          (led s tells.request tells.asks tells.sources verdict)
+          (led law balance s tells.request tells.asks tells.sources verdict)
 
       pub refused_exactly : HasVerdict status → (status ≡ 6) ↔ IsRefused s t
       refused_exactly verdict = exactly 6 (IsRefused s t) (says verdict).refused
@@ -315,8 +297,8 @@ module _ {S : Type 0} {held : S → List ℕ → Told} {reads writes : S → ℕ
 
       pub refusal_put : TextsAreRefusedSo → (before now : Option (List ℕ)) → status ≡ 6 → Appends before now text → PutsRefusal s t before now
       refusal_put refused before now six put =
-          let found = led s tells.request tells.asks tells.sources (six_is_a_verdict six) in
-          let said = led_refused stops s t (IsLongFor tells.request) found.0 ends.ending (told (held old) s t tells.texts found.0 found.1)
+          let found = led law balance s tells.request tells.asks tells.sources (six_is_a_verdict six) in
+          let said = led_refused stops s t (IsTooLongFor tells.request) found.0 ends.ending (told (held old) s t tells.texts found.0 found.1)
           found.2 (sym ends.status_is ∙ six) in
           record {
             code = said.code;
@@ -332,10 +314,17 @@ module _ {S : Type 0} {held : S → List ℕ → Told} {reads writes : S → ℕ
       pub limited_so : HasVerdict status → IsLimited s t → status ≡ 8
       limited_so verdict limited = ends.status_is ∙ (says verdict).limited limited
 
-      pub limited_by : status ≡ 8 → IsLimited s t ⊎ MayBeTooLong words t
+      pub limited_by : status ≡ 8 → IsLimited s t ⊎ MayBeTooLong words s t
       limited_by eight = elim ((says (eight_is_a_verdict eight)).limited_only (sym ends.status_is ∙ eight)) [
         | inl limited ↦ inl limited
-        | inr (g, problem, long) ↦ inr (too_long_for words s t tells.request tells.asks tells.sources g problem long)
+        | inr (g, problem, long) ↦ inr (record {
+          request = tells.request;
+          asks = tells.asks;
+          sources = tells.sources;
+          g = g;
+          problem = problem;
+          too_long = long;
+        })
       ]
 
     pub grounded_exactly : TellsGround words (held old) s t → HasVerdict status → (status ≡ 0) ↔ IsGrounded s t
@@ -356,37 +345,107 @@ module _ {S : Type 0} {held : S → List ℕ → Told} {reads writes : S → ℕ
           put = subst (Appends before now) (put_so.0 ∙ ap ending_text found.2) put;
         }
 
-    module _ (law : TextsAreRead) (balance : AcceptedIsBalanced) (f : List ℕ) (tells : TellsCheck words (held old) s t f) where
-      pub accepted_exactly : HasVerdict status → (status ≡ 0) ↔ IsAccepted s t f
-      accepted_exactly verdict =
-          exactly 0 (IsAccepted s t f)
-          (check_verdict (held old) told stops s t tells.texts law balance f tells.name tells.certificate ends.ending
-          (answers_of (to_check s tells.name) tells.asks (λ none. none) verdict).1 (verdict_of verdict)).0
+    module _ (law : TextsAreRead) (balance : AcceptedIsBalanced) (f : List ℕ) where
+      -- how `check` and `walk` end
+      record IsEnded : Type 0 where
+        pub texts : HoldsTexts (held old) s t
+        pub name : List ℕ
+        pub certificate : held old name ≡ Holds f
+        pub report : Ground → Content → List ℕ
+        pub text_is : text ≡ ending_text ends.ending
+        pub answers : CheckEnds (held old) told stops s t texts law balance f name certificate report ends.ending
 
-      pub rejected_exactly : HasVerdict status → (status ≡ 7) ↔ IsRejected s t f
-      rejected_exactly verdict =
-          exactly 7 (IsRejected s t f)
-          (check_verdict (held old) told stops s t tells.texts law balance f tells.name tells.certificate ends.ending
-          (answers_of (to_check s tells.name) tells.asks (λ none. none) verdict).1 (verdict_of verdict)).1
-
-      -- the report that was put, and what the certificate says of the task
-      pub report_put : ProblemStands → AreTerms s → NamesAreCarried → BalanceIsCarried → TaskIsEnclosed → TaskPolicyEnds → ((task : Task) → WellFormedSums task)
-          → (before now : Option (List ℕ)) → status ≡ 0 → Appends before now text → PutsReport s t f before now
-      report_put stands are names carried enclosed ending sums before now zero put =
-          let put_so = answers_of (to_check s tells.name) tells.asks (λ none. none) (zero_is_a_verdict zero) in
-          let found = check_reported (held old) told stops s t tells.texts law balance f tells.name tells.certificate ends.ending
-          put_so.1 (sym ends.status_is ∙ zero) in
-          let of_task = stands s t found.0 are found.2 in
+      abbrev check_ended : TellsCheck words (held old) s t f → HasVerdict status → IsEnded
+      check_ended tells verdict =
+          let answers = answers_of (to_check s tells.name) tells.asks (λ none. none) verdict in
           record {
-            g = found.0;
-            c = found.1;
-            problem = found.2;
-            decoded = found.3;
-            balanced_for = found.4;
-            put = subst (Appends before now) (put_so.0 ∙ ap ending_text found.5) put;
-            of_task = of_task;
-            balanced = names_balanced names found.0 of_task.task of_task.charges of_task.stands found.1 found.4 carried;
-            encloses = names_enclose names found.0 of_task.task of_task.charges of_task.stands found.1 found.4 enclosed;
-            ends = names_end names found.0 of_task.task of_task.charges of_task.stands found.1 found.4 ending
-                (sums of_task.task of_task.well_formed);
+            texts = tells.texts;
+            name = tells.name;
+            certificate = tells.certificate;
+            report = λ _. accepted_text;
+            text_is = answers.0;
+            answers = answers.1;
           }
+
+      abbrev walk_ended : (w : Walking) → w.sources ≡ s → TellsWalk words (held old) w t f → HasVerdict status → IsEnded
+      walk_ended w same tells verdict =
+          let answers = answers_of (to_walk w) tells.asks (λ none. none) verdict in
+          record {
+            texts = subst (λ (x : Sources). HoldsTexts (held old) x t) same tells.texts;
+            name = w.certificate;
+            certificate = tells.certificate;
+            report = walked_text w;
+            text_is = answers.0;
+            answers = (
+              answers.1.0,
+              subst (λ (x : Sources). MayGiveProblem (held old) x answers.1.0) same answers.1.1,
+              answers.1.2,
+            );
+          }
+
+      judged_ended : TellsJudged words (held old) s t f → HasVerdict status → IsEnded
+      judged_ended (inl tells) verdict = check_ended tells verdict
+      judged_ended (inr (w, same, tells)) verdict = walk_ended w same tells verdict
+
+      judged_verdict : (ended : IsEnded) → HasVerdict status
+          → ((status ≡ 0) ↔ IsAccepted s t f) × ((status ≡ 7) ↔ IsRejected s t f)
+      judged_verdict ended verdict =
+          let so = check_verdict (held old) told stops s t ended.texts law balance f ended.name ended.certificate ended.report ends.ending
+          ended.answers (verdict_of verdict) in
+          (exactly 0 (IsAccepted s t f) so.0, exactly 7 (IsRejected s t f) so.1)
+
+      pub accepted_exactly : TellsJudged words (held old) s t f → HasVerdict status → (status ≡ 0) ↔ IsAccepted s t f
+      accepted_exactly tells verdict = (judged_verdict (judged_ended tells verdict) verdict).0
+
+      pub rejected_exactly : TellsJudged words (held old) s t f → HasVerdict status → (status ≡ 7) ↔ IsRejected s t f
+      rejected_exactly tells verdict = (judged_verdict (judged_ended tells verdict) verdict).1
+
+      -- the certificate that was accepted, and what it says of the task
+      found_by : (ended : IsEnded) → status ≡ 0
+          → IsReported (held old) told stops s t ended.texts law balance f ended.name ended.certificate ended.report ends.ending
+      found_by ended zero =
+          check_reported (held old) told stops s t ended.texts law balance f ended.name ended.certificate ended.report ends.ending
+          ended.answers (sym ends.status_is ∙ zero)
+
+      -- the report of walks under the certificate that was accepted
+      pub walks_put : (w : Walking) → w.sources ≡ s → TellsWalk words (held old) w t f → (before now : Option (List ℕ)) → status ≡ 0
+          → Appends before now text
+          → (g : Ground) × (c : Content) × (problem_of s t ≡ Ok g) × IsDecoded f c × IsBalancedFor g c × Appends before now (walked_text w g c)
+      walks_put w same tells before now zero put =
+          let ended = walk_ended w same tells (zero_is_a_verdict zero) in
+          let found = found_by ended zero in
+          (found.g, found.c, found.problem, found.decoded, found.balanced, subst (Appends before now) (ended.text_is ∙ ap ending_text found.says) put)
+
+      module _ (stands : ProblemStands) (names : NamesAreCarried) (ending : TaskPolicyEnds) (sums : (task : Task) → WellFormedSums task) where
+        pub policy_ends : AreTerms s → TellsJudged words (held old) s t f → status ≡ 0 → EndsSoon s t f
+        policy_ends are tells zero =
+            let found = found_by (judged_ended tells (zero_is_a_verdict zero)) zero in
+            let of_task = stands s t found.g are found.problem in
+            record {
+              g = found.g;
+              c = found.c;
+              decoded = found.decoded;
+              of_task = of_task;
+              ends = names_end names found.g of_task.task of_task.charges of_task.stands found.c found.balanced ending
+                  (sums of_task.task of_task.well_formed);
+            }
+
+        pub report_put : AreTerms s → BalanceIsCarried → TaskIsEnclosed → (tells : TellsCheck words (held old) s t f)
+            → (before now : Option (List ℕ)) → status ≡ 0 → Appends before now text → PutsReport s t f before now
+        report_put are carried enclosed tells before now zero put =
+            let ended = check_ended tells (zero_is_a_verdict zero) in
+            let found = found_by ended zero in
+            let of_task = stands s t found.g are found.problem in
+            record {
+              g = found.g;
+              c = found.c;
+              problem = found.problem;
+              decoded = found.decoded;
+              balanced_for = found.balanced;
+              put = subst (Appends before now) (ended.text_is ∙ ap ending_text found.says) put;
+              of_task = of_task;
+              balanced = names_balanced names found.g of_task.task of_task.charges of_task.stands found.c found.balanced carried;
+              encloses = names_enclose names found.g of_task.task of_task.charges of_task.stands found.c found.balanced enclosed;
+              ends = names_end names found.g of_task.task of_task.charges of_task.stands found.c found.balanced ending
+                  (sums of_task.task of_task.well_formed);
+            }

@@ -4,12 +4,13 @@
 --     IsToServe asked         it asks for a server
 --     Asks words q, AsksNothing words
 --                             they ask for this, or for nothing
---     AsksToSearch words s, AsksToServe words
+--     IsToWrite asked         it asks for a certificate that is written: of a search, or a merged one
+--     AsksToServe, AsksToWrite words
 --                             the same of words
 use Rattle.std.specs.Prelude.{◌≡◌, ◌⊎◌, ℕ, List, Option, Some, None}
 use Rattle.std.specs.Borrow.{Bor}
 use Rattle.plan_request.specs.words.Shown.{texts_of}
-use Rattle.plan_request.specs.Asked.{Solving, Asked, to_solve, to_serve, request_of}
+use Rattle.plan_request.specs.Asked.{Solving, Merging, Asked, to_solve, to_serve, to_merge, request_of}
 
 abbrev pub asked_by : List (Bor (List ℕ)) → Option Asked
 asked_by words = request_of (texts_of words)
@@ -20,6 +21,9 @@ IsToSearch asked s = (asked ≡ Some (to_solve s)) ⊎ (asked ≡ Some (to_serve
 abbrev pub IsToServe : Option Asked → Type 0
 IsToServe asked = (s : Solving) × (asked ≡ Some (to_serve s))
 
+abbrev pub IsToWrite : Option Asked → Type 0
+IsToWrite asked = ((s : Solving) × IsToSearch asked s) ⊎ ((m : Merging) × (asked ≡ Some (to_merge m)))
+
 module _ (words : List (Bor (List ℕ))) where
   abbrev pub Asks : Asked → Type 0
   Asks q = asked_by words ≡ Some q
@@ -27,8 +31,8 @@ module _ (words : List (Bor (List ℕ))) where
   abbrev pub AsksNothing : Type 0
   AsksNothing = asked_by words ≡ None
 
-  abbrev pub AsksToSearch : Solving → Type 0
-  AsksToSearch s = IsToSearch (asked_by words) s
-
   abbrev pub AsksToServe : Type 0
   AsksToServe = IsToServe (asked_by words)
+
+  abbrev pub AsksToWrite : Type 0
+  AsksToWrite = IsToWrite (asked_by words)

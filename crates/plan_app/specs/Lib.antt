@@ -1,9 +1,14 @@
 pub mod Asking
 pub mod Measuring
+pub mod Judging
+pub mod Merging
+pub mod Walking
 pub mod Endings
 pub mod Verdicts
 pub mod Solutions
 pub mod Below
+pub mod Merged
+pub mod Walks
 pub mod Putting
 pub mod Examples
 pub mod certificates

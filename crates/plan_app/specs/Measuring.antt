@@ -8,6 +8,7 @@
 use Rattle.std.specs.Prelude.{ℕ, List, ◌++◌, None, Result, codes, decimal}
 use Rattle.ground_model.specs.Ground.{Ground}
 use Rattle.plan_request.specs.declared.effort.Effort.{Effort}
+use Rattle.plan_request.specs.declared.ends.Ends.TheVariants.{Depth}
 use Rattle.plan_request.specs.declared.sizes.Sizes.{Sizes}
 use Rattle.plan_request.specs.Asked.{Sources}
 use Rattle.plan_report.specs.Line.{line_text}
@@ -21,7 +22,7 @@ abbrev pub line_problem : ℕ → ℕ → Result Ground Stop
 line_problem places seed = problem_of line_sources (one_text (line_text places seed))
 
 abbrev pub bench_effort : ℕ → Effort
-bench_effort seed = record { gap = 1000000; rounds = 20000; trials = 0; depth = 1000; tau = 10; seed = seed }
+bench_effort seed = record { gap = 1000000; rounds = 20000; trials = 0; depth = 1000; tau = 10; seed = seed; ends = Depth }
 
 abbrev pub bench_sizes : Sizes
 bench_sizes = record { workers = 1; states = 65536; sweep_states = 4096 }

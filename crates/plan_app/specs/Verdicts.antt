@@ -2,6 +2,8 @@
 --     TellsTexts words held s t     the words ask for something over the texts t, which the shelf tells
 --     TellsGround words held s t    they ask for their ground problem
 --     TellsCheck words held s t f   they ask for the check of the bytes f, which it tells too
+--     TellsWalk words held w t f    they ask for walks under the certificate of the bytes f, which it tells too
+--     TellsJudged words held s t f  either of these
 --     TellsSearch words held command s t
 --                                   they ask by this command to solve it, and something is told of the name of the certificate
 --     HasVerdict status             the status speaks of the words or of bytes, and not of a fault or of memory
@@ -10,7 +12,8 @@
 --                                   the statuses of a request that meets no fault; 5 is want of memory
 --     IsRefused, IsLimited, IsGrounded s t
 --                                   the texts are outside the language; a quantity is above its limit; they have a ground problem
---     MayBeTooLong words t          they ask to solve it, with a server or without, and the text of a certificate that may be found is above its limit
+--     IsTooLongFor q g              a certificate that such a request may find for the problem, or merge, is above a limit
+--     MayBeTooLong words s t        they ask for something over these texts, and so may it be
 --     IsDecoded f c                 f is the text of the certificate c, of at most its version's greatest length
 --     IsAccepted, IsRejected s t f  f is, or is not, the text of a certificate that is balanced for the ground problem of the texts
 --     PutsRefusal s t old new       the line of the refusal was put: the texts spell no task, and this is their first fault, or an action
@@ -36,7 +39,7 @@ use Rattle.ppddl_model.specs.declared.tree.Task.{Task}
 use Rattle.ppddl_model.specs.Steps.{Charges, process, starts, start_den, step_den, least_step_cost}
 use Rattle.ground_model.specs.Ground.{Ground}
 use Rattle.plan_app.specs.certificates.Named.{names_certificate}
-use Rattle.plan_request.specs.Asked.{Sources, Solving, Asked, to_solve, to_check, to_serve, to_ground, to_bench}
+use Rattle.plan_request.specs.Asked.{Sources, Solving, Walking, Asked, to_solve, to_check, to_serve, to_ground, to_bench, to_merge, to_walk}
 use Rattle.plan_report.specs.Reports.{accepted_text, ground_text}
 use Rattle.plan_search.specs.Answers.{IsTooLong}
 use Rattle.plan_request.specs.declared.stop.status.TheConstants.{DONE, GAP_LEFT, READ_FAILED, WRITE_FAILED, NO_MEMORY, REFUSED, NOT_ACCEPTED, LIMIT}
@@ -46,7 +49,8 @@ use Rattle.plan_sources.specs.declared.texts.Texts.{Texts}
 use Rattle.plan_sources.specs.Problems.{problem_of}
 use Rattle.plan_request.specs.stop.Stop.{line_of}
 use Rattle.plan_sources.specs.Laws.{HoldsTexts, SpellsNone, IsNotCharged, StandsForTexts}
-use Rattle.plan_app.specs.Asking.{Asks, AsksToSearch}
+use Rattle.plan_app.specs.Asking.{Asks}
+use Rattle.plan_app.specs.Merging.{IsAboveLimit}
 
 -- ---- what is asked and told
 
@@ -56,6 +60,8 @@ sources_of (to_check s name) = Some s
 sources_of (to_serve s) = Some s.sources
 sources_of (to_ground s) = Some s
 sources_of (to_bench places seed) = None
+sources_of (to_merge m) = Some m.sources
+sources_of (to_walk w) = Some w.sources
 
 module _ (words : List (Bor (List ℕ))) (held : List ℕ → Told) (s : Sources) (t : Texts) where
   pub record TellsTexts : Type 0 where
@@ -73,6 +79,15 @@ module _ (words : List (Bor (List ℕ))) (held : List ℕ → Told) (s : Sources
     pub asks : Asks words (to_check s name)
     pub texts : HoldsTexts held s t
     pub certificate : held name ≡ Holds f
+
+module _ (words : List (Bor (List ℕ))) (held : List ℕ → Told) where
+  pub record TellsWalk (w : Walking) (t : Texts) (f : List ℕ) : Type 0 where
+    pub asks : Asks words (to_walk w)
+    pub texts : HoldsTexts held w.sources t
+    pub certificate : held w.certificate ≡ Holds f
+
+  abbrev pub TellsJudged : Sources → Texts → List ℕ → Type 0
+  TellsJudged s t f = TellsCheck words held s t f ⊎ ((w : Walking) × (w.sources ≡ s) × TellsWalk w t f)
 
 module _ (words : List (Bor (List ℕ))) (held : List ℕ → Told) (command : Solving → Asked) (s : Solving) (t : Texts) where
   pub record TellsSearch : Type 0 where
@@ -96,6 +111,8 @@ answers_to (to_check s name) = DONE ∷ NO_MEMORY ∷ REFUSED ∷ NOT_ACCEPTED �
 answers_to (to_serve s) = DONE ∷ GAP_LEFT ∷ NO_MEMORY ∷ REFUSED ∷ LIMIT ∷ []
 answers_to (to_ground s) = DONE ∷ NO_MEMORY ∷ REFUSED ∷ LIMIT ∷ []
 answers_to (to_bench places seed) = DONE ∷ GAP_LEFT ∷ NO_MEMORY ∷ []
+answers_to (to_merge m) = DONE ∷ NO_MEMORY ∷ REFUSED ∷ NOT_ACCEPTED ∷ LIMIT ∷ []
+answers_to (to_walk w) = DONE ∷ NO_MEMORY ∷ REFUSED ∷ NOT_ACCEPTED ∷ LIMIT ∷ []
 
 abbrev pub IsAnswerTo : Asked → ℕ → Type 0
 IsAnswerTo q status = Contains (answers_to q) status
@@ -126,13 +143,22 @@ module _ (s : Sources) (t : Texts) where
     pub of_task : StandsForTexts s t g
     pub put : Appends old new (ground_text g)
 
-pub record MayBeTooLong (words : List (Bor (List ℕ))) (t : Texts) : Type 0 where
-  pub solving : Solving
-  pub asks : AsksToSearch words solving
+abbrev pub IsTooLongFor : Asked → Ground → Type 0
+IsTooLongFor (to_solve s) g = (stop : Stop) × IsTooLong g s.effort s.sizes stop
+IsTooLongFor (to_check s name) g = ⊥
+IsTooLongFor (to_serve s) g = (stop : Stop) × IsTooLong g s.effort s.sizes stop
+IsTooLongFor (to_ground s) g = ⊥
+IsTooLongFor (to_bench places seed) g = ⊥
+IsTooLongFor (to_merge m) g = (c : Content) × (d : Content) × IsBalancedFor g c × IsBalancedFor g d × ((stop : Stop) × IsAboveLimit g c d stop)
+IsTooLongFor (to_walk w) g = ⊥
+
+pub record MayBeTooLong (words : List (Bor (List ℕ))) (s : Sources) (t : Texts) : Type 0 where
+  pub request : Asked
+  pub asks : Asks words request
+  pub sources : sources_of request ≡ Some s
   pub g : Ground
-  pub problem : problem_of solving.sources t ≡ Ok g
-  pub stop : Stop
-  pub too_long : IsTooLong g solving.effort solving.sizes stop
+  pub problem : problem_of s t ≡ Ok g
+  pub too_long : IsTooLongFor request g
 
 -- ---- certificates
 

@@ -8,7 +8,7 @@ ghost use Rattle.plan_app.specs.Measuring.{bench_effort, bench_sizes, bench_line
 use crate::solving::said;
 use plain_list::Bytes;
 use plan_report::line_problem;
-use plan_request::{Effort, Report, Sizes, Sources, Stop};
+use plan_request::{Effort, Ends, Report, Sizes, Sources, Stop};
 use plan_search::measure;
 use plan_sources::{problem_of_text, source_laws};
 use shelf_io::Gate;
@@ -26,6 +26,7 @@ fn effort(seed: u64) -> Effort
         depth: 1_000,
         tau: 10,
         seed,
+        ends: Ends::Depth,
     }
 }
 

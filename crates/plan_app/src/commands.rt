@@ -3,7 +3,7 @@
 ghost use Rattle.std.specs.Prelude.{◌≡◌, ◌⊎◌, Some, Err};
 ghost use Rattle.shelf_io.specs.Causes.{Rose};
 ghost use Rattle.policy_server.specs.Serving.{input};
-ghost use Rattle.plan_request.specs.Asked.{to_check, to_ground};
+ghost use Rattle.plan_request.specs.Asked.{to_ground};
 ghost use Rattle.plan_request.specs.Laws.{AreTerms, IsInRange};
 ghost use Rattle.plan_request.specs.Shown.{shown_sources, shown_request};
 ghost use Rattle.plan_sources.specs.Endings.{OnlyRead};
@@ -14,12 +14,14 @@ ghost use Rattle.plan_app.specs.Endings.{Leaves, LeavesForWords};
 ghost use Rattle.plan_app.specs.Putting.{PutsAnswers, CountsOn};
 
 use crate::benching::bench;
-use crate::judging::judge;
+use crate::judging::check;
+use crate::merging::merge;
 use crate::serving::serve;
 use crate::solving::solve;
+use crate::walking::walk;
 use plan_report::ground_report;
 use plan_request::{Report, Request, Sources, Stop, request_laws, request_of};
-use plan_sources::{certificate_of, problem_of};
+use plan_sources::problem_of;
 use shelf_io::{Gate, Shelf, Sink, Source};
 use std::alloc::Global;
 use std::thread::Threads;
@@ -90,26 +92,9 @@ fn answer<R: Threads + Sync, S: Shelf, I: Source, O: Sink, G: Gate>(
         Request::Serve(solving) => serve(rt, alloc, solving, shelf, source, out, gate),
         Request::Ground(sources) => ground(alloc, sources, shelf),
         Request::Bench { places, seed } => bench(rt, alloc, *places, *seed, gate),
+        Request::Merge(merging) => merge(alloc, merging, shelf),
+        Request::Walk(walking) => walk(alloc, walking, shelf),
     }
-}
-
-/// The report of the certificate under a name, which is asked for behind texts that are accepted.
-fn check<S: Shelf>(
-    alloc: Global,
-    sources: &Sources<'_>,
-    name: &str,
-    shelf: &mut S,
-) -> Result<Report, Stop>
-    requires { AreTerms (shown_sources sources.now) }
-    ensures ends { MayEndRequest S.held S.read_faults S.write_faults shelf.old shelf.new
-        (to_check (shown_sources sources.now) name.now) result }
-    ensures calls { CallsFor S.held S.calls shelf.old shelf.new
-        (to_check (shown_sources sources.now) name.now) }
-    ensures shelf { OnlyRead S.held S.read_faults S.write_faults shelf.old shelf.new }
-{
-    let problem = problem_of(alloc, sources, shelf)?;
-    let certificate = certificate_of(alloc, name, shelf)?;
-    judge(alloc, &problem, &certificate)
 }
 
 /// The report of the ground problem of the texts.

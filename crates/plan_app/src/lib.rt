@@ -6,9 +6,12 @@ mod benching;
 mod certificates;
 mod commands;
 mod judging;
+mod merging;
+mod pair;
 mod program;
 mod serving;
 mod solving;
+mod walking;
 
 pub use certificates::task_certificate_laws;
 pub use program::run;

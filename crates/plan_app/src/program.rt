@@ -9,22 +9,27 @@ ghost use Rattle.plan_request.specs.declared.stop.status.TheConstants.{WRITE_FAI
 ghost use Rattle.plan_request.specs.declared.stop.status.TheConstants.{NOT_ACCEPTED, LIMIT};
 ghost use Rattle.plan_request.specs.declared.stop.Stop.TheVariants.{WriteFailed};
 ghost use Rattle.policy_server.specs.Serving.{input};
-ghost use Rattle.plan_request.specs.Asked.{Asked, Sources, Solving, to_solve, to_serve, to_bench};
+ghost use Rattle.plan_request.specs.Asked.{Asked, Sources, Solving, Merging, Walking};
+ghost use Rattle.plan_request.specs.Asked.{to_solve, to_serve, to_bench};
 ghost use Rattle.plan_sources.specs.declared.texts.Texts.{Texts};
-ghost use Rattle.plan_app.specs.Asking.{asked_by, Asks, AsksNothing, AsksToSearch, AsksToServe};
+ghost use Rattle.plan_app.specs.Asking.{asked_by, Asks, AsksNothing, AsksToWrite, AsksToServe};
 ghost use Rattle.plan_app.specs.Endings.{Lacks, Faults, MayEndAs, LeavesForWords, CallsForWords};
-ghost use Rattle.plan_app.specs.Verdicts.{TellsTexts, TellsGround, TellsCheck, TellsSearch};
+ghost use Rattle.plan_app.specs.Verdicts.{TellsTexts, TellsGround, TellsCheck, TellsJudged};
+ghost use Rattle.plan_app.specs.Verdicts.{TellsSearch, TellsWalk};
 ghost use Rattle.plan_app.specs.Verdicts.{HasVerdict, HasReport, IsAnswerTo};
 ghost use Rattle.plan_app.specs.Verdicts.{IsRefused, IsLimited, IsGrounded, IsAccepted, IsRejected};
 ghost use Rattle.plan_app.specs.Verdicts.{MayBeTooLong, PutsRefusal, PutsProblem, PutsReport};
 ghost use Rattle.plan_app.specs.Verdicts.{EndsSoon};
 ghost use Rattle.plan_app.specs.Solutions.{PutsService, PutsMeasure};
 ghost use Rattle.plan_app.specs.Below.{PutsSolved};
+ghost use Rattle.plan_app.specs.Merged.{TellsMerge, IsMerged, IsUnmerged, PutsMerged};
+ghost use Rattle.plan_app.specs.Walks.{PutsWalks};
 ghost use Rattle.plan_app.specs.Putting.{PutsPart, SaysPut, SaysCutShort};
 
 use crate::certificates::task_certificate_laws;
 use crate::commands::report_of;
 use bench_line::line_laws;
+use cert_merge::merged_laws;
 use certificate::text_laws;
 use certificate_check::check_laws;
 use ground_meaning::{
@@ -39,8 +44,8 @@ use std::thread::Threads;
 
 /// Runs the program with the words behind its name, and answers its status.
 ///
-/// `check`, `ground` and `bench` change nothing on the shelf; `solve` and `serve` change the name of their
-/// certificate alone. Under `serve` alone something is taken from the source.
+/// `check`, `walk`, `ground` and `bench` change nothing on the shelf; `solve`, `serve` and `merge` change the name
+/// of the certificate that they write alone. Under `serve` alone something is taken from the source.
 pub fn run<R: Threads + Sync, S: Shelf, I: Source + Send, O: Sink + Send, G: Gate>(
     rt: &R,
     alloc: Global,
@@ -75,15 +80,21 @@ pub fn run<R: Threads + Sync, S: Shelf, I: Source + Send, O: Sink + Send, G: Gat
     ensures limited { (s : Sources) (t : Texts) → TellsTexts words.now (S.held shelf.old) s t
         → HasVerdict result → IsLimited s t → result ≡ LIMIT }
     ensures limited_only { (s : Sources) (t : Texts) → TellsTexts words.now (S.held shelf.old) s t
-        → result ≡ LIMIT → IsLimited s t ⊎ MayBeTooLong words.now t }
+        → result ≡ LIMIT → IsLimited s t ⊎ MayBeTooLong words.now s t }
     ensures grounded { (s : Sources) (t : Texts) → TellsGround words.now (S.held shelf.old) s t
         → HasVerdict result → (result ≡ DONE) ↔ IsGrounded s t }
     ensures accepted { (s : Sources) (t : Texts) (f : List ℕ)
-        → TellsCheck words.now (S.held shelf.old) s t f
+        → TellsJudged words.now (S.held shelf.old) s t f
         → HasVerdict result → (result ≡ DONE) ↔ IsAccepted s t f }
     ensures rejected { (s : Sources) (t : Texts) (f : List ℕ)
-        → TellsCheck words.now (S.held shelf.old) s t f
+        → TellsJudged words.now (S.held shelf.old) s t f
         → HasVerdict result → (result ≡ NOT_ACCEPTED) ↔ IsRejected s t f }
+    ensures merged { (m : Merging) (t : Texts) (f f' : List ℕ)
+        → TellsMerge words.now (S.held shelf.old) m t f f'
+        → HasVerdict result → (result ≡ DONE) ↔ IsMerged m.sources t f f' }
+    ensures unmerged { (m : Merging) (t : Texts) (f f' : List ℕ)
+        → TellsMerge words.now (S.held shelf.old) m t f f'
+        → HasVerdict result → (result ≡ NOT_ACCEPTED) ↔ IsUnmerged m.sources t f f' }
 
     // The problem that was printed stands for the task of the texts.
     ensures stands { (s : Sources) (t : Texts) → TellsGround words.now (S.held shelf.old) s t
@@ -97,7 +108,20 @@ pub fn run<R: Threads + Sync, S: Shelf, I: Source + Send, O: Sink + Send, G: Gat
     // Its policy ends: n steps are made with a chance of at most the upper value over n times the least cost of
     // a step.
     ensures ends_soon { (s : Sources) (t : Texts) (f : List ℕ)
-        → TellsCheck words.now (S.held shelf.old) s t f → result ≡ DONE → EndsSoon s t f }
+        → TellsJudged words.now (S.held shelf.old) s t f → result ≡ DONE → EndsSoon s t f }
+
+    // The walks that were put are those of the ground problem under the policy of the certificate, and each is a
+    // run of the task under it.
+    ensures walks { (w : Walking) (t : Texts) (f : List ℕ)
+        → TellsWalk words.now (S.held shelf.old) w t f
+        → result ≡ DONE → PutsWalks w t f (O.taken out.old) (O.taken out.new) }
+
+    // The certificate that two were merged to was written. It is one that `check` accepts, and its interval lies
+    // in both.
+    ensures merges { (m : Merging) (t : Texts) (f f' : List ℕ)
+        → TellsMerge words.now (S.held shelf.old) m t f f'
+        → result ≡ DONE → PutsMerged m.sources t f f' (S.held shelf.new m.into)
+        (O.taken out.old) (O.taken out.new) }
 
     // The certificate that was written is one that `check` accepts. It is as narrow as plain rounded iteration
     // makes the interval in so many rounds, and wider than was asked for only where that is too.
@@ -122,8 +146,7 @@ pub fn run<R: Threads + Sync, S: Shelf, I: Source + Send, O: Sink + Send, G: Gat
         ⊎ (Rose (S.read_faults shelf.old) (S.read_faults shelf.new)
         ⊎ (AsksToServe words.now × Rose (I.faults source.old) (I.faults source.new))) }
     ensures write_failed { result ≡ WRITE_FAILED → Rose (O.faults out.old) (O.faults out.new)
-        ⊎ ((s : Solving) × AsksToSearch words.now s
-        × Rose (S.write_faults shelf.old) (S.write_faults shelf.new)) }
+        ⊎ (AsksToWrite words.now × Rose (S.write_faults shelf.old) (S.write_faults shelf.new)) }
 
     // Want of memory, 5, is free. It puts nothing, and nor does a certificate that was not written; but the
     // answers of a server may stand.
@@ -150,6 +173,7 @@ pub fn run<R: Threads + Sync, S: Shelf, I: Source + Send, O: Sink + Send, G: Gat
     line_laws();
     text_laws();
     check_laws();
+    merged_laws();
     task_laws();
     stands_laws();
     same_cost_laws();

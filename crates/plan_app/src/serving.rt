@@ -7,7 +7,7 @@ ghost use Rattle.plan_request.specs.Asked.{to_serve};
 ghost use Rattle.plan_request.specs.Laws.{IsSolving};
 ghost use Rattle.plan_request.specs.Shown.{shown_solving};
 ghost use Rattle.plan_request.specs.declared.stop.Stop.TheVariants.{WriteFailed};
-ghost use Rattle.plan_app.specs.Endings.{CallsFor, OnlyWrites};
+ghost use Rattle.plan_app.specs.Endings.{CallsFor, Leaves};
 ghost use Rattle.plan_app.specs.Putting.{PutsAnswers, CountsOn};
 
 use crate::solving::write;
@@ -39,8 +39,8 @@ pub(crate) fn serve<R: Threads + Sync, S: Shelf, I: Source, O: Sink, G: Gate>(
     ensures counts { CountsOn (O.faults out.old) (O.faults out.new) }
     ensures calls { CallsFor S.held S.calls shelf.old shelf.new
         (to_serve (shown_solving solving.now)) }
-    ensures shelf { OnlyWrites S.held S.read_faults S.write_faults shelf.old shelf.new
-        (shown_solving solving.now) }
+    ensures shelf { Leaves S.held S.read_faults S.write_faults shelf.old shelf.new
+        (to_serve (shown_solving solving.now)) }
 {
     source_laws();
     let problem = problem_of(alloc, &solving.sources, shelf)?;

@@ -7,7 +7,7 @@ ghost use Rattle.plan_request.specs.Asked.{to_solve};
 ghost use Rattle.plan_request.specs.Laws.{IsSolving};
 ghost use Rattle.plan_request.specs.Shown.{shown_solving};
 ghost use Rattle.plan_request.specs.declared.stop.Stop.TheVariants.{NoMemory, WriteFailed};
-ghost use Rattle.plan_app.specs.Endings.{MayEndRequest, CallsFor, OnlyWrites, said_by};
+ghost use Rattle.plan_app.specs.Endings.{MayEndRequest, CallsFor, Leaves, said_by};
 
 use plain_list::Bytes;
 use plan_request::{Report, Solving, Stop};
@@ -30,8 +30,8 @@ pub(crate) fn solve<R: Threads + Sync, S: Shelf, G: Gate>(
         (to_solve (shown_solving solving.now)) result }
     ensures calls { CallsFor S.held S.calls shelf.old shelf.new
         (to_solve (shown_solving solving.now)) }
-    ensures shelf { OnlyWrites S.held S.read_faults S.write_faults shelf.old shelf.new
-        (shown_solving solving.now) }
+    ensures shelf { Leaves S.held S.read_faults S.write_faults shelf.old shelf.new
+        (to_solve (shown_solving solving.now)) }
 {
     source_laws();
     let problem = problem_of(alloc, &solving.sources, shelf)?;

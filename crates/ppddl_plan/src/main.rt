@@ -6,8 +6,8 @@ ghost use Rattle.std.specs.Prelude.{◌≡◌, ◌≢◌, ◌⊎◌, ◌↔◌, 
 ghost use Rattle.shelf_io.specs.Causes.{Rose};
 ghost use Rattle.plan_request.specs.declared.stop.status.TheConstants.{BAD_WORDS, WRITE_FAILED};
 ghost use Rattle.plan_request.specs.declared.stop.status.TheConstants.{NO_MEMORY};
-ghost use Rattle.plan_request.specs.Asked.{Solving, request_of};
-ghost use Rattle.plan_app.specs.Asking.{IsToSearch, IsToServe};
+ghost use Rattle.plan_request.specs.Asked.{request_of};
+ghost use Rattle.plan_app.specs.Asking.{IsToWrite, IsToServe};
 ghost use Rattle.plan_app.specs.Endings.{LeavesForWords};
 
 use plan_app::run;
@@ -63,7 +63,7 @@ fn run_with<R: Threads + Sync, S: Shelf, I: Source + Send, O: Sink + Send>(
     ensures bad_words { result ≢ WRITE_FAILED → result ≢ NO_MEMORY
         → (result ≡ BAD_WORDS) ↔ (request_of (map string_bytes words.now) ≡ None) }
     ensures write_failed { result ≡ WRITE_FAILED → Rose (O.faults out.old) (O.faults out.new)
-        ⊎ ((s : Solving) × IsToSearch (request_of (map string_bytes words.now)) s
+        ⊎ (IsToWrite (request_of (map string_bytes words.now))
         × Rose (S.write_faults shelf.old) (S.write_faults shelf.new)) }
     ensures memory { result ≡ NO_MEMORY → IsToServe (request_of (map string_bytes words.now))
         ⊎ (O.taken out.new ≡ O.taken out.old) }

@@ -20,6 +20,8 @@ mod limits;
 #[cfg(test)]
 mod lowers;
 #[cfg(test)]
+mod merging;
+#[cfg(test)]
 mod problems;
 #[cfg(test)]
 mod reports;
@@ -37,3 +39,5 @@ mod service;
 mod signal;
 #[cfg(test)]
 mod texts;
+#[cfg(test)]
+mod walks;

@@ -9,7 +9,7 @@ use std::test::Fail;
 use std::thread::Threads;
 
 /// What stands in place of what in which text, the words of a search, its status and what it puts.
-static TOLD: [(&[(&str, &str, &str)], &str, u8, &str); 7] = [
+static TOLD: [(&[(&str, &str, &str)], &str, u8, &str); 10] = [
     // The penalty is less than a step costs.
     (
         &[],
@@ -45,6 +45,26 @@ static TOLD: [(&[(&str, &str, &str)], &str, u8, &str); 7] = [
         0,
         "converged\ninterval 1.000000 1.000000\nstates 3\nrounds 1\nstart 1/1 1.000000 1.000000 (act) :\nunder 1.000000\n",
     ),
+    (
+        &[],
+        "solve coin --cert c --lower relaxed --rounds 0",
+        1,
+        "stopped budget\ninterval 0.000000 10.000000\nstates 2\nrounds 0\nstart 1/1 0.000000 10.000000 give-up :\nunder 1.000000\n",
+    ),
+    // Two moves at least, whatever they do to the tire.
+    (
+        &[],
+        "solve tire --cert c --penalty 100 --lower relaxed --rounds 0",
+        1,
+        "stopped budget\ninterval 0.000000 100.000000\nstates 8\nrounds 0\nstart 1/1 0.000000 100.000000 give-up : (not-flattire) (spare-in l2) (vehicle-at l1)\nunder 2.000000\n",
+    ),
+    // The goal is out of reach.
+    (
+        &[("coin", "flip\n", "flip :precondition (done)\n")],
+        "solve coin --cert c --lower relaxed --rounds 0",
+        1,
+        "stopped budget\ninterval 0.000000 10.000000\nstates 1\nrounds 0\nstart 1/1 0.000000 10.000000 give-up :\nunder 10.000000\n",
+    ),
     // Nothing is told.
     (
         &[],
@@ -52,7 +72,7 @@ static TOLD: [(&[(&str, &str, &str)], &str, u8, &str); 7] = [
         1,
         "stopped budget\ninterval 0.000000 10.000000\nstates 2\nrounds 0\nstart 1/1 0.000000 10.000000 give-up :\n",
     ),
-    (&[], "solve coin --cert c --lower relaxed", 2, "bad words\n"),
+    (&[], "solve coin --cert c --lower higher", 2, "bad words\n"),
     (&[], "serve coin --cert c --lower cost", 2, "bad words\n"),
 ];
 
@@ -64,7 +84,20 @@ fn lower_bounds_are_told(rt: HostRuntime) -> Result<(), Fail> {
     Ok(())
 }
 
-/// A road of 200 steps, by no round.
+/// A road of 200 steps, by no round: by the least cost of a choice, and where nothing is deleted.
+static ROADS: [(&str, u8, &str); 2] = [
+    (
+        "solve road --cert c --penalty 1000 --lower cost --rounds 0",
+        1,
+        "stopped budget\ninterval 0.000000 1000.000000\nstates 201\nrounds 0\nstart 1/1 0.000000 1000.000000 give-up : (at p0)\nunder 1.000000\n",
+    ),
+    (
+        "solve road --cert c --penalty 1000 --lower relaxed --rounds 0",
+        1,
+        "stopped budget\ninterval 0.000000 1000.000000\nstates 201\nrounds 0\nstart 1/1 0.000000 1000.000000 give-up : (at p0)\nunder 200.000000\n",
+    ),
+];
+
 fn check_road<R: Threads + Sync + Abort>(
     rt: &R,
     alloc: Global,
@@ -72,10 +105,10 @@ fn check_road<R: Threads + Sync + Abort>(
 ) -> Result<(), AllocError> {
     let text = road(alloc)?;
     shelf.hold("road", text.as_str().as_bytes())?;
-    let words = "solve road --cert c --penalty 1000 --lower cost --rounds 0";
-    let put =
-        "stopped budget\ninterval 0.000000 1000.000000\nstates 201\nrounds 0\nstart 1/1 0.000000 1000.000000 give-up : (at p0)\nunder 1.000000\n";
-    check_row(rt, alloc, shelf, (words, 1, put))
+    for row in &ROADS {
+        check_row(rt, alloc, shelf, *row)?;
+    }
+    Ok(())
 }
 
 /// The certificate is the same with and without.

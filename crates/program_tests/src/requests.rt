@@ -1,6 +1,6 @@
 //! What words ask for.
 
-use plan_request::{Effort, Lower, Request, Sizes, request_of};
+use plan_request::{Effort, Ends, Lower, Request, Sizes, request_of};
 use std::test::Fail;
 
 const DEFAULT_EFFORT: Effort = Effort {
@@ -10,6 +10,7 @@ const DEFAULT_EFFORT: Effort = Effort {
     depth: 1_000,
     tau: 10,
     seed: 1,
+    ends: Ends::Depth,
 };
 
 const DEFAULT_SIZES: Sizes = Sizes {
@@ -22,11 +23,12 @@ const DEFAULT_SIZES: Sizes = Sizes {
 static SOLVING: [(&str, &str, Effort, Sizes); 2] = [
     ("solve coin --cert c", "c", DEFAULT_EFFORT, DEFAULT_SIZES),
     (
-        "solve --cert=c=d coin --gap 0.5 --seed 007 --states=65",
+        "solve --cert=c=d coin --gap 0.5 --seed 007 --states=65 --ends new",
         "c=d",
         Effort {
             gap: 500_000,
             seed: 7,
+            ends: Ends::New,
             ..DEFAULT_EFFORT
         },
         Sizes {
@@ -73,7 +75,7 @@ static BAD: [&str; 20] = [
     "ground coin --cert c",
     "serve coin --cert c --lower cost",
     "check coin --cert c --lower cost",
-    "solve coin --cert c --lower relaxed",
+    "solve coin --cert c --lower higher",
     // Numbers out of their ranges.
     "check coin --cert c --penalty 0",
     "solve coin --cert c --states 65 --sweep-states 65",

@@ -19,6 +19,14 @@ action cost = record { outcomes = way cost ∷ []; den = 1 }
 abbrev pub first : ℕ → ListedState
 first cost = record { placed = true; goal = false; actions = action cost ∷ [] }
 
+-- a state whose one action leads to a state at a cost of 1
+abbrev pub leads_to : ℕ → ListedState
+leads_to next = record {
+  placed = true;
+  goal = false;
+  actions = record { outcomes = record { weight = 1; cost = 1; next = next } ∷ []; den = 1 } ∷ [];
+}
+
 abbrev pub second : ListedState
 second = record { placed = false; goal = false; actions = [] }
 

@@ -9,6 +9,7 @@ ghost use Rattle.plan_search.specs.solver.Opened.{AreSizes};
 use crate::problems::{SLOW_COIN, problem_of};
 use crate::table::steps::find_id;
 use bound_words::interval;
+use brtdp_trial::Ends;
 use ground_model::{GroundProblem, State};
 use plan_search::{Effort, Opening, Sizes, make_crew, open};
 use shelf_io::FreeGate;
@@ -33,6 +34,7 @@ const EFFORT: Effort = Effort {
     depth: 1,
     tau: 10,
     seed: 1,
+    ends: Ends::Depth,
 };
 
 /// How often an interval is read at most.

@@ -1,10 +1,11 @@
 //! Trials over listed states: where they end, and which draws they take.
 
-ghost use Rattle.std.specs.Prelude.{◌<◌, ◌≤◌, ◌^◌};
+ghost use Rattle.std.specs.Prelude.{◌≡◌, ◌<◌, ◌≤◌, ◌^◌, IfOk};
+ghost use Rattle.search_tests.specs.TwoStates.{leads_to};
 
 use brtdp_trial::{
-    Interval, List, ListedAction, ListedBounds, ListedStart, ListedState, Outcome, Path, Trial,
-    TrialEnd, trial,
+    Ends, Interval, List, ListedAction, ListedBounds, ListedStart, ListedState, Outcome, Path,
+    Trial, TrialEnd, trial,
 };
 use std::alloc::{AllocError, Global};
 use std::test::Fail;
@@ -81,7 +82,7 @@ fn ended(
     };
     let mut bounds = one_way(alloc, 8, way, upper, next)?;
     let mut path = Path::make(alloc, depth)?;
-    let answer = trial(&mut bounds, 0, 1, depth, 10, &mut path);
+    let answer = trial(&mut bounds, 0, 1, depth, 10, Ends::Depth, &mut path);
     Ok((answer, bounds.interval(0)))
 }
 
@@ -114,6 +115,93 @@ fn trials_end_where_their_choices_say(rt: HostRuntime) -> Result<(), Fail> {
     Ok(())
 }
 
+/// A state whose one action leads to a state at a cost of 1.
+fn state_with(alloc: Global, next: u32) -> Result<ListedState, AllocError>
+    ensures { IfOk result (λ s. s ≡ leads_to next) }
+{
+    let way = Outcome {
+        weight: 1,
+        cost: 1,
+        next,
+    };
+    let action = ListedAction {
+        den: 1,
+        outcomes: List::from_vec(Vec::from_array(alloc, [way])?),
+    };
+    Ok(ListedState {
+        placed: true,
+        goal: false,
+        actions: List::from_vec(Vec::from_array(alloc, [action])?),
+    })
+}
+
+/// Two states that lead to each other at a cost of 1, where giving up costs 8. The first is the start.
+fn to_each_other(alloc: Global) -> Result<ListedBounds, AllocError> {
+    let start = ListedStart {
+        weight: 1,
+        state: 0,
+    };
+    let number = Interval { lower: 0, upper: 8 };
+    let starts = List::from_vec(Vec::from_array(alloc, [start])?);
+    let numbers = List::from_vec(Vec::from_array(alloc, [number, number])?);
+    // What is long to let go comes last.
+    let first = state_with(alloc, 1)?;
+    let second = state_with(alloc, 0)?;
+    let states = List::from_vec(Vec::from_array(alloc, [first, second])?);
+    Ok(ListedBounds::new(8, starts, states, numbers))
+}
+
+/// The id of a turn.
+fn id_at(path: &Path, place: usize) -> Option<u32> {
+    path.turns().get(place).map(|turn| turn.id)
+}
+
+/// The end of a trial between these states, the ids of its first three turns, and the interval of the start afterwards.
+fn passed(
+    alloc: Global,
+    ends: Ends,
+    depth: u32,
+) -> Result<(Trial, [Option<u32>; 3], Option<Interval>), AllocError>
+    requires { 1 ≤ depth }
+{
+    let mut bounds = to_each_other(alloc)?;
+    let mut path = Path::make(alloc, depth)?;
+    let answer = trial(&mut bounds, 0, 1, depth, 10, ends, &mut path);
+    let ids = [id_at(&path, 0), id_at(&path, 1), id_at(&path, 2)];
+    Ok((answer, ids, bounds.interval(0)))
+}
+
+/// What `passed` is to answer.
+fn passing(
+    end: TrialEnd,
+    length: u32,
+    ids: [Option<u32>; 3],
+    lower: u64,
+) -> (Trial, [Option<u32>; 3], Option<Interval>) {
+    let interval = Interval { lower, upper: 8 };
+    (Trial { end, length }, ids, Some(interval))
+}
+
+#[test]
+fn trials_end_at_new_states_where_they_are_to(rt: HostRuntime) -> Result<(), Fail> {
+    let alloc = rt.alloc();
+    // the second state is new when it is drawn, and is backed up
+    let new = passing(TrialEnd::New, 2, [Some(0), Some(1), None], 3);
+    assert_eq!(rt; passed(alloc, Ends::New, 5)?, new);
+    // that comes before the depth
+    assert_eq!(rt; passed(alloc, Ends::New, 2)?, new);
+    // a start is never new
+    assert_eq!(rt;
+        passed(alloc, Ends::New, 1)?,
+        passing(TrialEnd::Depth, 1, [Some(0), None, None], 1)
+    );
+    assert_eq!(rt;
+        passed(alloc, Ends::Depth, 3)?,
+        passing(TrialEnd::Depth, 3, [Some(0), Some(1), Some(0)], 5)
+    );
+    Ok(())
+}
+
 /// What is left of the draw at a place of a path: of the start, or of a turn.
 fn rest_of(path: &Path, place: usize) -> Option<u128> {
     if place == 0 {
@@ -141,7 +229,7 @@ fn rest_at(
     };
     let mut bounds = one_way(alloc, MOST_NUMBER, way, MOST_NUMBER, MOST_NUMBER)?;
     let mut path = Path::make(alloc, 6)?;
-    trial(&mut bounds, number, seed, 6, 10, &mut path);
+    trial(&mut bounds, number, seed, 6, 10, Ends::Depth, &mut path);
     Ok(rest_of(&path, place))
 }
 

@@ -1,7 +1,7 @@
 -- What `run` says of the words that it is lent, said of the words; and a shelf that is left alone is left as any request may leave it.
 use Rattle.std.proofs.Common.{inl, inr, rules}
 use Rattle.std.specs.Prelude.{◌≡◌, map, string_bytes, Some}
-use Rattle.plan_request.specs.Asked.{to_solve, to_serve, request_of}
+use Rattle.plan_request.specs.Asked.{to_solve, to_serve, to_merge, request_of}
 use Rattle.plan_app.proofs.Flow.{unchanged}
 use Rattle.ppddl_plan.proofs.run_with.Goals as goal
 
@@ -9,12 +9,15 @@ pub returns-in-Ok-clause-write_failed : goal.returns-in-Ok-clause-write_failed
 returns-in-Ok-clause-write_failed g c = λ four.
     elim (c.run.ensures.write_failed four) [
       | inl rose ↦ inl rose
-      | inr (s, inl solves, rose) ↦
+      | inr (inl (s, inl solves), rose) ↦
           let is : request_of (map string_bytes c.args.words.now) ≡ Some (to_solve s) = search (rules, solves, c.in-Ok.ensures, c.as_slice.ensures.value) in
-          inr (s, inl is, rose)
-      | inr (s, inr serves, rose) ↦
+          inr (inl (s, inl is), rose)
+      | inr (inl (s, inr serves), rose) ↦
           let is : request_of (map string_bytes c.args.words.now) ≡ Some (to_serve s) = search (rules, serves, c.in-Ok.ensures, c.as_slice.ensures.value) in
-          inr (s, inr is, rose)
+          inr (inl (s, inr is), rose)
+      | inr (inr (m, merges), rose) ↦
+          let is : request_of (map string_bytes c.args.words.now) ≡ Some (to_merge m) = search (rules, merges, c.in-Ok.ensures, c.as_slice.ensures.value) in
+          inr (inr (m, is), rose)
     ]
 
 pub returns-in-Err-clause-shelf : goal.returns-in-Err-clause-shelf

@@ -1,7 +1,7 @@
 -- A request that starts no server puts nothing but its ending.
 use Rattle.std.proofs.Common.{sym, subst, Some}
-use Rattle.plan_request.specs.Asked.{to_solve, to_check, to_ground, to_bench}
-use Rattle.plan_request.specs.Shown.{shown_sources, shown_solving, shown_request}
+use Rattle.plan_request.specs.Asked.{to_solve, to_check, to_ground, to_bench, to_merge, to_walk}
+use Rattle.plan_request.specs.Shown.{shown_sources, shown_solving, shown_merging, shown_walking, shown_request}
 use Rattle.policy_server.specs.Serving.{input}
 use Rattle.plan_app.specs.Putting.{PutsAnswers}
 use Rattle.plan_app.proofs.Flow.{measured, puts_nothing}
@@ -56,3 +56,27 @@ returns-in-Bench-clause-ends g c =
     (to_bench c.in-Bench.places c.in-Bench.seed) c.bench.result
     (measured g.S.Shelf.held g.S.Shelf.read_faults g.S.Shelf.write_faults c.args.shelf.now c.args.shelf.now c.in-Bench.places c.in-Bench.seed
     c.bench.result c.bench.ensures))
+
+pub returns-in-Merge-clause-ends : goal.returns-in-Merge-clause-ends
+returns-in-Merge-clause-ends g c =
+    subst
+    (λ r. PutsAnswers g.S.Shelf.held g.S.Shelf.read_faults g.S.Shelf.write_faults c.args.shelf.now c.merge.new.shelf
+    (input g.I.Source.left g.I.Source.ends g.I.Source.faults c.args.source.now)
+    (input g.I.Source.left g.I.Source.ends g.I.Source.faults c.args.source.now)
+    (g.O.Sink.taken c.args.out.now) (g.O.Sink.taken c.args.out.now) (Some (shown_request r)) c.merge.result)
+    (sym c.in-Merge.is)
+    (puts_nothing g.S.Shelf.held g.S.Shelf.read_faults g.S.Shelf.write_faults c.args.shelf.now c.merge.new.shelf
+    (input g.I.Source.left g.I.Source.ends g.I.Source.faults c.args.source.now) (g.O.Sink.taken c.args.out.now)
+    (to_merge (shown_merging c.in-Merge.merging)) c.merge.result c.merge.ensures.ends)
+
+pub returns-in-Walk-clause-ends : goal.returns-in-Walk-clause-ends
+returns-in-Walk-clause-ends g c =
+    subst
+    (λ r. PutsAnswers g.S.Shelf.held g.S.Shelf.read_faults g.S.Shelf.write_faults c.args.shelf.now c.walk.new.shelf
+    (input g.I.Source.left g.I.Source.ends g.I.Source.faults c.args.source.now)
+    (input g.I.Source.left g.I.Source.ends g.I.Source.faults c.args.source.now)
+    (g.O.Sink.taken c.args.out.now) (g.O.Sink.taken c.args.out.now) (Some (shown_request r)) c.walk.result)
+    (sym c.in-Walk.is)
+    (puts_nothing g.S.Shelf.held g.S.Shelf.read_faults g.S.Shelf.write_faults c.args.shelf.now c.walk.new.shelf
+    (input g.I.Source.left g.I.Source.ends g.I.Source.faults c.args.source.now) (g.O.Sink.taken c.args.out.now)
+    (to_walk (shown_walking c.in-Walk.walking)) c.walk.result c.walk.ensures.ends)

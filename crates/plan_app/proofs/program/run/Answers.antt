@@ -3,15 +3,14 @@ use Rattle.std.proofs.Common.{◌≡◌, ◌≢◌, ◌⊎◌, ◌++◌, inl, in
 use Rattle.std.specs.Io.KnownBytes.{Appends}
 use Rattle.shelf_io.specs.Causes.{Rose}
 use Rattle.policy_server.specs.Serving.{input}
-use Rattle.plan_request.specs.Asked.{Solving}
 use Rattle.plan_request.specs.stop.Stop.{ending_text}
 use Rattle.plan_request.specs.declared.stop.status.TheConstants.{WRITE_FAILED}
 use Rattle.plan_request.specs.declared.stop.Stop.TheVariants.{WriteFailed}
-use Rattle.plan_app.specs.Asking.{asked_by, AsksToSearch}
+use Rattle.plan_app.specs.Asking.{asked_by, AsksToWrite}
 use Rattle.plan_app.specs.Endings.{MayEndAs}
 use Rattle.plan_app.specs.Putting.{PutsAnswers}
 use Rattle.plan_app.specs.Verdicts.{IsAnswerTo}
-use Rattle.plan_app.proofs.Asked.{asked_range, check_terms, ground_terms, solve_range, serve_range}
+use Rattle.plan_app.proofs.Asked.{asked_range, check_terms, ground_terms, solve_range, serve_range, merge_terms, walk_terms, judged_terms}
 use Rattle.plan_app.proofs.Exchanges.{rose_on}
 use Rattle.plan_app.proofs.Answering.{answer_with, write_rose}
 use Rattle.plan_app.proofs.Statuses.{
@@ -27,11 +26,14 @@ use Rattle.plan_app.proofs.Statuses.{
   grounded_exactly,
   accepted_exactly,
   rejected_exactly,
+  policy_ends,
   problem_put,
   report_put,
   read_failed_only,
   write_failed_for,
 }
+use Rattle.plan_app.proofs.Merged.{merged_exactly, unmerged_exactly, merge_put}
+use Rattle.plan_app.proofs.Walked.{walks_told}
 use Rattle.plan_app.proofs.Solved.{solution_put, service_put, measure_put, report_is_a_verdict}
 use Rattle.plan_app.proofs.program.run.Given.{Over}
 use Rattle.plan_app.proofs.program.run.Goals as goal
@@ -74,21 +76,25 @@ returns-clause-bad_words g c = λ written enough. bad_words_exactly (ended_at g 
 
 pub returns-clause-refused : goal.returns-clause-refused
 returns-clause-refused g c = λ s t tells verdict.
-    refused_exactly (ended_at g c verdict.no_write_fault) c.source_laws.ensures.told c.source_laws.ensures.stops s t tells verdict
+    refused_exactly (ended_at g c verdict.no_write_fault) c.source_laws.ensures.told c.source_laws.ensures.stops s t
+    c.text_laws.ensures.reads c.check_laws.ensures.accepted tells verdict
 
 pub returns-clause-refuses : goal.returns-clause-refuses
 returns-clause-refuses g c = λ s t tells six.
     let written : c.put_ending.result ≢ WRITE_FAILED = λ four. omega (arith, six, four) in
-    refusal_put (ended_at g c written) c.source_laws.ensures.told c.source_laws.ensures.stops s t tells c.source_laws.ensures.refused
+    refusal_put (ended_at g c written) c.source_laws.ensures.told c.source_laws.ensures.stops s t
+    c.text_laws.ensures.reads c.check_laws.ensures.accepted tells c.source_laws.ensures.refused
     _ _ six (put_at g c written)
 
 pub returns-clause-limited : goal.returns-clause-limited
 returns-clause-limited g c = λ s t tells verdict limited.
-    limited_so (ended_at g c verdict.no_write_fault) c.source_laws.ensures.told c.source_laws.ensures.stops s t tells verdict limited
+    limited_so (ended_at g c verdict.no_write_fault) c.source_laws.ensures.told c.source_laws.ensures.stops s t
+    c.text_laws.ensures.reads c.check_laws.ensures.accepted tells verdict limited
 
 pub returns-clause-limited_only : goal.returns-clause-limited_only
 returns-clause-limited_only g c = λ s t tells eight.
-    limited_by (ended_at g c (λ four. omega (arith, eight, four))) c.source_laws.ensures.told c.source_laws.ensures.stops s t tells eight
+    limited_by (ended_at g c (λ four. omega (arith, eight, four))) c.source_laws.ensures.told c.source_laws.ensures.stops s t
+    c.text_laws.ensures.reads c.check_laws.ensures.accepted tells eight
 
 pub returns-clause-grounded : goal.returns-clause-grounded
 returns-clause-grounded g c = λ s t tells verdict.
@@ -114,21 +120,45 @@ pub returns-clause-encloses : goal.returns-clause-encloses
 returns-clause-encloses g c = λ s t f tells zero.
     let written : c.put_ending.result ≢ WRITE_FAILED = λ four. omega (arith, zero, four) in
     report_put (ended_at g c written) c.source_laws.ensures.told c.source_laws.ensures.stops s t
-    c.text_laws.ensures.reads c.check_laws.ensures.accepted f tells
-    c.source_laws.ensures.stands (check_terms c.request_laws.ensures c.args.words.now s tells.name tells.asks)
-    c.task_certificate_laws.ensures.names c.task_certificate_laws.ensures.balance c.task_certificate_laws.ensures.encloses c.task_certificate_laws.ensures.ends
-    c.task_laws.ensures.well_formed _ _ zero (put_at g c written)
+    c.text_laws.ensures.reads c.check_laws.ensures.accepted f
+    c.source_laws.ensures.stands c.task_certificate_laws.ensures.names c.task_certificate_laws.ensures.ends c.task_laws.ensures.well_formed
+    (check_terms c.request_laws.ensures c.args.words.now s tells.name tells.asks)
+    c.task_certificate_laws.ensures.balance c.task_certificate_laws.ensures.encloses tells _ _ zero (put_at g c written)
 
 pub returns-clause-ends_soon : goal.returns-clause-ends_soon
 returns-clause-ends_soon g c = λ s t f tells zero.
-    let report = returns-clause-encloses g c s t f tells zero in
-    record {
-      g = report.g;
-      c = report.c;
-      decoded = report.decoded;
-      of_task = report.of_task;
-      ends = report.ends;
-    }
+    policy_ends (ended_at g c (λ four. omega (arith, zero, four))) c.source_laws.ensures.told c.source_laws.ensures.stops s t
+    c.text_laws.ensures.reads c.check_laws.ensures.accepted f
+    c.source_laws.ensures.stands c.task_certificate_laws.ensures.names c.task_certificate_laws.ensures.ends c.task_laws.ensures.well_formed
+    (judged_terms c.request_laws.ensures c.args.words.now (g.S.Shelf.held c.args.shelf.now) s t f tells) tells zero
+
+pub returns-clause-merged : goal.returns-clause-merged
+returns-clause-merged g c = λ m t f f' tells verdict.
+    merged_exactly (ended_at g c verdict.no_write_fault) c.source_laws.ensures.told c.source_laws.ensures.stops
+    c.text_laws.ensures.reads c.check_laws.ensures.accepted c.merged_laws.ensures m t f f' tells verdict
+
+pub returns-clause-unmerged : goal.returns-clause-unmerged
+returns-clause-unmerged g c = λ m t f f' tells verdict.
+    unmerged_exactly (ended_at g c verdict.no_write_fault) c.source_laws.ensures.told c.source_laws.ensures.stops
+    c.text_laws.ensures.reads c.check_laws.ensures.accepted c.merged_laws.ensures m t f f' tells verdict
+
+pub returns-clause-merges : goal.returns-clause-merges
+returns-clause-merges g c = λ m t f f' tells zero.
+    let written : c.put_ending.result ≢ WRITE_FAILED = λ four. omega (arith, zero, four) in
+    merge_put (ended_at g c written) c.source_laws.ensures.told c.source_laws.ensures.stops
+    c.text_laws.ensures.reads c.check_laws.ensures.accepted c.merged_laws.ensures m t f f' tells
+    c.source_laws.ensures.stands (merge_terms c.request_laws.ensures c.args.words.now m tells.asks)
+    c.task_certificate_laws.ensures.names c.task_certificate_laws.ensures.balance c.task_certificate_laws.ensures.encloses c.task_certificate_laws.ensures.ends
+    c.task_laws.ensures.well_formed _ _ zero (put_at g c written)
+
+pub returns-clause-walks : goal.returns-clause-walks
+returns-clause-walks g c = λ w t f tells zero.
+    let written : c.put_ending.result ≢ WRITE_FAILED = λ four. omega (arith, zero, four) in
+    walks_told (ended_at g c written) c.source_laws.ensures.told c.source_laws.ensures.stops
+    c.text_laws.ensures.reads c.check_laws.ensures.accepted w t f tells
+    c.source_laws.ensures.stands (walk_terms c.request_laws.ensures c.args.words.now w tells.asks)
+    c.stands_laws.ensures.process c.stands_laws.ensures.starts c.stands_laws.ensures.back
+    c.task_certificate_laws.ensures.carried c.task_certificate_laws.ensures.names _ _ zero (put_at g c written)
 
 pub returns-clause-solves : goal.returns-clause-solves
 returns-clause-solves g c = λ s t tells has.
@@ -165,21 +195,22 @@ returns-clause-measures g c = λ places seed asks has.
 -- a certificate was not written, or the sink failed before the ending was put
 not_written : (g : Over) (c : goal.After-put_ending g) → c.report_of-ending.result ≡ Err WriteFailed
     → Rose (g.O.Sink.faults c.args.out.now) (g.O.Sink.faults c.put_ending.new.out)
-    ⊎ ((s : Solving) × AsksToSearch c.args.words.now s × Rose (g.S.Shelf.write_faults c.args.shelf.now) (g.S.Shelf.write_faults c.report_of-ending.new.shelf))
+    ⊎ (AsksToWrite c.args.words.now × Rose (g.S.Shelf.write_faults c.args.shelf.now) (g.S.Shelf.write_faults c.report_of-ending.new.shelf))
 not_written g c is =
     elim (write_failed_for g.S.Shelf.held g.S.Shelf.read_faults g.S.Shelf.write_faults c.args.shelf.now c.report_of-ending.new.shelf
     _ c.source_laws.ensures.stops _ _ is (puts_at g c).may_end) [
       | inl asks ↦ elim (c.report_of-ending.ensures.write_failed asks is) [
         | inl rose ↦ inl (subst (λ out. Rose (g.O.Sink.faults c.args.out.now) (g.O.Sink.faults out)) (sym (c.put_ending.ensures.unwritten is)) rose)
-        | inr rose ↦ inr (asks.0, inr asks.1, rose)
+        | inr rose ↦ inr (inl (asks.0, inr asks.1), rose)
       ]
-      | inr (s, asks, rose) ↦ inr (s, inl asks, rose)
+      | inr (inl (s, asks), rose) ↦ inr (inl (s, inl asks), rose)
+      | inr (inr (m, asks), rose) ↦ inr (inr (m, asks), rose)
     ]
 
 -- 4 comes by a fault of the sink, or where a certificate was not written
 four_by : (g : Over) (c : goal.After-put_ending g) → c.put_ending.result ≡ WRITE_FAILED
     → Rose (g.O.Sink.faults c.args.out.now) (g.O.Sink.faults c.put_ending.new.out)
-    ⊎ ((s : Solving) × AsksToSearch c.args.words.now s × Rose (g.S.Shelf.write_faults c.args.shelf.now) (g.S.Shelf.write_faults c.report_of-ending.new.shelf))
+    ⊎ (AsksToWrite c.args.words.now × Rose (g.S.Shelf.write_faults c.args.shelf.now) (g.S.Shelf.write_faults c.report_of-ending.new.shelf))
 four_by g c four = elim (c.put_ending.ensures.write_failed four) [
   | inl rose ↦ inl (rose_on _ _ _ c.report_of-ending.ensures.counts rose)
   | inr is ↦ not_written g c is
@@ -211,8 +242,8 @@ pub returns-clause-answered : goal.returns-clause-answered
 returns-clause-answered g c = λ q asks lacks faults puts.
     let written : c.put_ending.result ≢ WRITE_FAILED = λ four. elim (four_by g c four) [
       | inl rose ↦ puts rose
-      | inr (s, searches, rose) ↦ faults (write_rose g.S.Shelf.read_faults g.S.Shelf.write_faults g.I.Source.faults c.args.shelf.now c.report_of-ending.new.shelf
-          c.args.source.now c.report_of-ending.new.source c.args.words.now q asks s searches rose)
+      | inr (writes, rose) ↦ faults (write_rose g.S.Shelf.read_faults g.S.Shelf.write_faults g.I.Source.faults c.args.shelf.now c.report_of-ending.new.shelf
+          c.args.source.now c.report_of-ending.new.source c.args.words.now q asks writes rose)
     ] in
     let ends = ended_at g c written in
     subst (IsAnswerTo q) (sym ends.status_is)

@@ -7,6 +7,7 @@ use Rattle.plan_request.specs.declared.stop.Stop.{Stop}
 use Rattle.plan_request.specs.declared.stop.Stop.TheVariants.{WriteFailed}
 use Rattle.policy_server.specs.Serving.{input}
 use Rattle.plan_search.specs.service.Served.{streams}
+use Rattle.plan_app.specs.Endings.{IsHeld}
 use Rattle.plan_app.proofs.Exchanges.{counts_on, counts_same}
 use Rattle.plan_app.proofs.Flow.{
   serve_stops,
@@ -15,6 +16,7 @@ use Rattle.plan_app.proofs.Flow.{
   served_writes,
   served_rose,
   answer_of_service,
+  search_held,
   under_name,
   leaves,
   nothing_written,
@@ -45,12 +47,13 @@ returns-in_err-problem-clause-write_failed g c = λ is.
 
 pub returns-in_err-problem-clause-calls : goal.returns-in_err-problem-clause-calls
 returns-in_err-problem-clause-calls g c =
-    calls_alone g.S.Shelf.held g.S.Shelf.calls c.args.shelf.now c.problem_of.new.shelf (shown_solving c.args.solving.now).sources c.problem_of.ensures.calls
+    calls_alone g.S.Shelf.held g.S.Shelf.calls c.args.shelf.now c.problem_of.new.shelf 1 (shown_solving c.args.solving.now).sources c.problem_of.ensures.calls
 
 pub returns-in_err-problem-clause-shelf : goal.returns-in_err-problem-clause-shelf
 returns-in_err-problem-clause-shelf g c =
-    nothing_written g.S.Shelf.held g.S.Shelf.read_faults g.S.Shelf.write_faults c.args.shelf.now (shown_solving c.args.solving.now)
-    c.problem_of.new.shelf c.problem_of.ensures.shelf
+    let s = shown_solving c.args.solving.now in
+    nothing_written g.S.Shelf.held g.S.Shelf.read_faults g.S.Shelf.write_faults c.args.shelf.now c.problem_of.new.shelf s.certificate
+    (IsHeld g.S.Shelf.held g.S.Shelf.read_faults g.S.Shelf.write_faults c.args.shelf.now c.problem_of.new.shelf s) c.problem_of.ensures.shelf
 
 -- ---- its names are those of certificates
 
@@ -89,12 +92,13 @@ returns-in_err-answer-clause-counts g c = elim c.in_err-answer.ensures [
 
 pub returns-in_err-answer-clause-calls : goal.returns-in_err-answer-clause-calls
 returns-in_err-answer-clause-calls g c =
-    calls_alone g.S.Shelf.held g.S.Shelf.calls c.args.shelf.now c.problem_of.new.shelf (shown_solving c.args.solving.now).sources c.problem_of.ensures.calls
+    calls_alone g.S.Shelf.held g.S.Shelf.calls c.args.shelf.now c.problem_of.new.shelf 1 (shown_solving c.args.solving.now).sources c.problem_of.ensures.calls
 
 pub returns-in_err-answer-clause-shelf : goal.returns-in_err-answer-clause-shelf
 returns-in_err-answer-clause-shelf g c =
-    nothing_written g.S.Shelf.held g.S.Shelf.read_faults g.S.Shelf.write_faults c.args.shelf.now (shown_solving c.args.solving.now)
-    c.problem_of.new.shelf c.problem_of.ensures.shelf
+    let s = shown_solving c.args.solving.now in
+    nothing_written g.S.Shelf.held g.S.Shelf.read_faults g.S.Shelf.write_faults c.args.shelf.now c.problem_of.new.shelf s.certificate
+    (IsHeld g.S.Shelf.held g.S.Shelf.read_faults g.S.Shelf.write_faults c.args.shelf.now c.problem_of.new.shelf s) c.problem_of.ensures.shelf
 
 -- ---- it has one
 
@@ -123,7 +127,7 @@ returns-clause-counts g c =
 
 pub returns-clause-calls : goal.returns-clause-calls
 returns-clause-calls g c =
-    calls_behind g.S.Shelf.held g.S.Shelf.calls c.args.shelf.now c.problem_of.new.shelf c.write.new.shelf (shown_solving c.args.solving.now).sources
+    calls_behind g.S.Shelf.held g.S.Shelf.calls c.args.shelf.now c.problem_of.new.shelf c.write.new.shelf 1 (shown_solving c.args.solving.now).sources
     (c.in_ok-problem.problem, c.in_ok-problem.ensures.ends) c.problem_of.ensures.calls c.write.ensures.calls
 
 pub returns-clause-shelf : goal.returns-clause-shelf
@@ -132,9 +136,13 @@ returns-clause-shelf g c =
     let shown = streams g.I.Source.left g.I.Source.ends g.I.Source.faults g.O.Sink.taken g.O.Sink.faults in
     let is_answer = answer_of_service g.S.Shelf.held g.S.Shelf.read_faults g.S.Shelf.write_faults c.args.shelf.now s c.in_ok-problem.problem c.in_ok-problem.ensures.ends
     (shown c.args.source.now c.args.out.now) (shown c.serve.new.source c.serve.new.sink) c.in_ok-answer.answer (serving_so c.in_ok-answer.ensures) in
-    leaves g.S.Shelf.held g.S.Shelf.read_faults g.S.Shelf.write_faults c.args.shelf.now s c.in_ok-problem.problem c.in_ok-problem.ensures.ends c.problem_of.new.shelf c.write.new.shelf
-    c.problem_of.ensures.shelf.held_same c.in_ok-answer.answer is_answer c.problem_of.ensures.shelf
-    (under_name g.S.Shelf.held g.S.Shelf.read_faults g.S.Shelf.write_faults c.args.shelf.now s c.in_ok-problem.problem c.in_ok-problem.ensures.ends c.problem_of.new.shelf c.write.new.shelf
-    c.problem_of.ensures.shelf.held_same c.in_ok-answer.answer is_answer c.write.result c.write.ensures.written c.write.ensures.stops
-    c.write.ensures.memory)
+    let a = c.in_ok-answer.answer in
+    leaves g.S.Shelf.held g.S.Shelf.read_faults g.S.Shelf.write_faults c.args.shelf.now c.problem_of.new.shelf c.write.new.shelf
+    c.problem_of.ensures.shelf.held_same s.certificate a
+    (IsHeld g.S.Shelf.held g.S.Shelf.read_faults g.S.Shelf.write_faults c.args.shelf.now c.write.new.shelf s)
+    (search_held g.S.Shelf.held g.S.Shelf.read_faults g.S.Shelf.write_faults c.args.shelf.now s c.in_ok-problem.problem c.in_ok-problem.ensures.ends
+    a is_answer c.write.new.shelf)
+    c.problem_of.ensures.shelf
+    (under_name g.S.Shelf.held g.S.Shelf.read_faults g.S.Shelf.write_faults c.args.shelf.now c.problem_of.new.shelf c.write.new.shelf
+    c.problem_of.ensures.shelf.held_same s.certificate a c.write.result c.write.ensures.written c.write.ensures.stops c.write.ensures.memory)
     c.write.ensures.others c.write.ensures.reads c.write.ensures.once

@@ -1,8 +1,10 @@
 -- The ground problem of the texts, what a search of it answers, and what is written.
 use Rattle.std.proofs.Common.{rules}
 use Rattle.plan_request.specs.Shown.{shown_solving}
-use Rattle.plan_search.specs.Under.{with_report}
-use Rattle.plan_app.proofs.Flow.{solve_stops, search_stops, wrote, under_name, leaves, nothing_written, calls_alone, calls_behind}
+use Rattle.plan_search.specs.Under.{with_report, IsAnswerWith}
+use Rattle.plan_search.specs.Answers.{IsTooLong}
+use Rattle.plan_app.specs.Endings.{IsHeld}
+use Rattle.plan_app.proofs.Flow.{solve_stops, solve_ends, search_stops, search_held, wrote, under_name, leaves, nothing_written, calls_alone, calls_behind}
 use Rattle.plan_app.proofs.Names.{given_names}
 use Rattle.plan_app.proofs.solving.solve.Goals as goal
 
@@ -16,12 +18,13 @@ returns-in_err-problem-clause-ends g c =
 
 pub returns-in_err-problem-clause-calls : goal.returns-in_err-problem-clause-calls
 returns-in_err-problem-clause-calls g c =
-    calls_alone g.S.Shelf.held g.S.Shelf.calls c.args.shelf.now c.problem_of.new.shelf (shown_solving c.args.solving.now).sources c.problem_of.ensures.calls
+    calls_alone g.S.Shelf.held g.S.Shelf.calls c.args.shelf.now c.problem_of.new.shelf 1 (shown_solving c.args.solving.now).sources c.problem_of.ensures.calls
 
 pub returns-in_err-problem-clause-shelf : goal.returns-in_err-problem-clause-shelf
 returns-in_err-problem-clause-shelf g c =
-    nothing_written g.S.Shelf.held g.S.Shelf.read_faults g.S.Shelf.write_faults c.args.shelf.now (shown_solving c.args.solving.now)
-    c.problem_of.new.shelf c.problem_of.ensures.shelf
+    let s = shown_solving c.args.solving.now in
+    nothing_written g.S.Shelf.held g.S.Shelf.read_faults g.S.Shelf.write_faults c.args.shelf.now c.problem_of.new.shelf s.certificate
+    (IsHeld g.S.Shelf.held g.S.Shelf.read_faults g.S.Shelf.write_faults c.args.shelf.now c.problem_of.new.shelf s) c.problem_of.ensures.shelf
 
 -- ---- its names are those of certificates
 
@@ -40,35 +43,43 @@ returns-in_err-answer-clause-ends g c =
 
 pub returns-in_err-answer-clause-calls : goal.returns-in_err-answer-clause-calls
 returns-in_err-answer-clause-calls g c =
-    calls_alone g.S.Shelf.held g.S.Shelf.calls c.args.shelf.now c.problem_of.new.shelf (shown_solving c.args.solving.now).sources c.problem_of.ensures.calls
+    calls_alone g.S.Shelf.held g.S.Shelf.calls c.args.shelf.now c.problem_of.new.shelf 1 (shown_solving c.args.solving.now).sources c.problem_of.ensures.calls
 
 pub returns-in_err-answer-clause-shelf : goal.returns-in_err-answer-clause-shelf
 returns-in_err-answer-clause-shelf g c =
-    nothing_written g.S.Shelf.held g.S.Shelf.read_faults g.S.Shelf.write_faults c.args.shelf.now (shown_solving c.args.solving.now)
-    c.problem_of.new.shelf c.problem_of.ensures.shelf
+    let s = shown_solving c.args.solving.now in
+    nothing_written g.S.Shelf.held g.S.Shelf.read_faults g.S.Shelf.write_faults c.args.shelf.now c.problem_of.new.shelf s.certificate
+    (IsHeld g.S.Shelf.held g.S.Shelf.read_faults g.S.Shelf.write_faults c.args.shelf.now c.problem_of.new.shelf s) c.problem_of.ensures.shelf
 
 -- ---- it has one
 
 pub returns-clause-ends : goal.returns-clause-ends
 returns-clause-ends g c =
-    let a = c.in_ok-answer.answer in let told = c.in_ok-answer.ensures.answer in
-    wrote g.S.Shelf.held g.S.Shelf.read_faults g.S.Shelf.write_faults c.args.shelf.now (shown_solving c.args.solving.now)
-    c.in_ok-problem.problem c.in_ok-problem.ensures.ends c.problem_of.new.shelf c.write.new.shelf c.problem_of.ensures.shelf.held_same
-    (with_report a told.plain) told.is_answer a.report told c.write.result c.problem_of.ensures.shelf.no_write_fault
-    c.write.ensures.report c.write.ensures.written c.write.ensures.stops
+    let s = shown_solving c.args.solving.now in
+    let problem = c.in_ok-problem.problem in
+    let a = c.in_ok-answer.answer in
+    solve_ends g.S.Shelf.held g.S.Shelf.read_faults g.S.Shelf.write_faults c.args.shelf.now s problem c.in_ok-problem.ensures.ends
+    c.write.new.shelf c.write.result
+    (wrote g.S.Shelf.held g.S.Shelf.read_faults g.S.Shelf.write_faults c.args.shelf.now c.problem_of.new.shelf c.write.new.shelf
+    c.problem_of.ensures.shelf.held_same s.certificate a (IsAnswerWith problem s.effort s.sizes s.lower) (IsTooLong problem s.effort s.sizes)
+    c.in_ok-answer.ensures.answer c.write.result c.problem_of.ensures.shelf.no_write_fault
+    c.write.ensures.report c.write.ensures.written c.write.ensures.stops)
 
 pub returns-clause-calls : goal.returns-clause-calls
 returns-clause-calls g c =
-    calls_behind g.S.Shelf.held g.S.Shelf.calls c.args.shelf.now c.problem_of.new.shelf c.write.new.shelf (shown_solving c.args.solving.now).sources
+    calls_behind g.S.Shelf.held g.S.Shelf.calls c.args.shelf.now c.problem_of.new.shelf c.write.new.shelf 1 (shown_solving c.args.solving.now).sources
     (c.in_ok-problem.problem, c.in_ok-problem.ensures.ends) c.problem_of.ensures.calls c.write.ensures.calls
 
 pub returns-clause-shelf : goal.returns-clause-shelf
 returns-clause-shelf g c =
+    let s = shown_solving c.args.solving.now in
     let a = c.in_ok-answer.answer in let told = c.in_ok-answer.ensures.answer in
-    leaves g.S.Shelf.held g.S.Shelf.read_faults g.S.Shelf.write_faults c.args.shelf.now (shown_solving c.args.solving.now)
-    c.in_ok-problem.problem c.in_ok-problem.ensures.ends c.problem_of.new.shelf c.write.new.shelf c.problem_of.ensures.shelf.held_same
-    (with_report a told.plain) told.is_answer c.problem_of.ensures.shelf
-    (under_name g.S.Shelf.held g.S.Shelf.read_faults g.S.Shelf.write_faults c.args.shelf.now (shown_solving c.args.solving.now)
-    c.in_ok-problem.problem c.in_ok-problem.ensures.ends c.problem_of.new.shelf c.write.new.shelf c.problem_of.ensures.shelf.held_same
-    (with_report a told.plain) told.is_answer c.write.result c.write.ensures.written c.write.ensures.stops c.write.ensures.memory)
+    leaves g.S.Shelf.held g.S.Shelf.read_faults g.S.Shelf.write_faults c.args.shelf.now c.problem_of.new.shelf c.write.new.shelf
+    c.problem_of.ensures.shelf.held_same s.certificate a
+    (IsHeld g.S.Shelf.held g.S.Shelf.read_faults g.S.Shelf.write_faults c.args.shelf.now c.write.new.shelf s)
+    (search_held g.S.Shelf.held g.S.Shelf.read_faults g.S.Shelf.write_faults c.args.shelf.now s c.in_ok-problem.problem c.in_ok-problem.ensures.ends
+    (with_report a told.plain) told.is_answer c.write.new.shelf)
+    c.problem_of.ensures.shelf
+    (under_name g.S.Shelf.held g.S.Shelf.read_faults g.S.Shelf.write_faults c.args.shelf.now c.problem_of.new.shelf c.write.new.shelf
+    c.problem_of.ensures.shelf.held_same s.certificate a c.write.result c.write.ensures.written c.write.ensures.stops c.write.ensures.memory)
     c.write.ensures.others c.write.ensures.reads c.write.ensures.once
