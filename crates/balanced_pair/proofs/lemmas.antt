@@ -1,0 +1,3 @@
+pub mod uncut
+pub mod partial_rows
+pub mod layers

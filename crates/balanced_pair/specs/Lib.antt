@@ -1,0 +1,6 @@
+pub mod Pairs
+pub mod Laws
+pub mod partial_rows
+pub mod layers
+pub mod uncut
+pub mod Coin
