@@ -1,0 +1,3 @@
+pub mod GroundLayers
+pub mod LayerRows
+pub mod Laws

@@ -1,0 +1,2 @@
+pub mod Informed
+pub mod Laws
