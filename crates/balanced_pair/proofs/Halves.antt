@@ -10,7 +10,7 @@ acts_or_quits a e = cc
 pub off_or_on : (b : Bool) {X : Type 0} → b ≡ true → b ≡ false → X
 off_or_on b on off = absurd cc
 
-greater_of_two : (m n : ℕ) → (max m n ≡ m) ⊎ (max m n ≡ n)
+pub greater_of_two : (m n : ℕ) → (max m n ≡ m) ⊎ (max m n ≡ n)
 greater_of_two m n = grind arith
 
 module _ {S A : Type 0} (p : Process S A) where
