@@ -6,3 +6,4 @@ pub mod Choosing
 pub mod Joining
 pub mod Followed
 pub mod Drawn
+pub mod Reaching

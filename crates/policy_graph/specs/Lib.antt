@@ -1,5 +1,6 @@
 pub mod Reached
 pub mod Graph
 pub mod Text
+pub mod Laws
 pub mod Search
 pub mod Claims

@@ -7,8 +7,10 @@
 --     start_line g nodes i     an arrow to the node of start i with its chance
 --     edge_label g e           the action of an edge, its chance and its cost in units
 --     edge_line g e            an edge with these
+--     is_cut g graph           a start is not drawn, or an edge leads to a state that is not
 --     more_line g graph        the node `more`, where an arrow leads to it
 --     graph_text g graph       the graph
+--     graph_report g graph     how many nodes and edges it has, and whether it is cut
 -- Source: the DOT language of Graphviz (Gansner and North 2000).
 use Rattle.std.specs.Prelude.{ℕ, nat_eq, nat_lt, Bool, cond, not, ◌||◌, Option, Some, None, is_some}
 use Rattle.std.specs.Prelude.{List, [], ◌∷◌, ◌++◌, length, codes, decimal}
@@ -94,10 +96,11 @@ edge_line g e =
 abbrev pub leads_on : Edge → Bool
 leads_on e = not (is_some e.to)
 
+abbrev pub is_cut : Ground → PolicyGraph → Bool
+is_cut g graph = nat_lt (length graph.nodes) (length g.starts) || list_any leads_on graph.edges
+
 abbrev pub more_line : Ground → PolicyGraph → List ℕ
-more_line g graph =
-    cond (nat_lt (length graph.nodes) (length g.starts) || list_any leads_on graph.edges)
-    (codes "more [label=\"...\", shape=plaintext];\n") []
+more_line g graph = cond (is_cut g graph) (codes "more [label=\"...\", shape=plaintext];\n") []
 
 -- ---- the graph
 
@@ -114,3 +117,13 @@ graph_text g graph =
     ++ flat_map (start_line g (length graph.nodes)) (range_with_len 0 (length g.starts))
     ++ flat_map (edge_line g) graph.edges
     ++ codes "}\n"
+
+-- ---- what is said of it
+
+abbrev pub last_line : Bool → List ℕ
+last_line cut = cond cut (codes "\ncut\n") (codes "\nall\n")
+
+abbrev pub graph_report : Ground → PolicyGraph → List ℕ
+graph_report g graph =
+    codes "drawn\nstates " ++ decimal (length graph.nodes) ++ codes "\nedges "
+    ++ decimal (length graph.edges) ++ last_line (is_cut g graph)

@@ -2,7 +2,7 @@
 
 ghost use Rattle.std.specs.Prelude.{◌≡◌, ◌++◌, ◌<◌, ◌^◌, length, IfOk, OnOk};
 ghost use Rattle.std.specs.List.{flat_map, list_any, range_with_len};
-ghost use Rattle.policy_graph.specs.Text.{edge_line, leads_on, more_line, node_line};
+ghost use Rattle.policy_graph.specs.Text.{edge_line, is_cut, leads_on, more_line, node_line};
 ghost use Rattle.policy_graph.specs.Text.{start_line, graph_text};
 
 use crate::edge::Edge;
@@ -32,6 +32,13 @@ fn leads_on(edges: &[Edge]) -> bool
     edges.iter().any(|edge| edge.to.is_none())
 }
 
+/// Whether a start is not drawn, or an edge leads to a state that is not.
+pub(crate) fn is_cut(problem: &GroundProblem, graph: &PolicyGraph) -> bool
+    ensures { result ≡ is_cut problem.now graph.now }
+{
+    graph.nodes.as_slice().len() < problem.starts().len() || leads_on(graph.edges.as_slice())
+}
+
 /// Appends the node that stands for states that are not drawn, where an arrow leads to it.
 fn push_more(
     out: &mut Vec<u8>,
@@ -40,8 +47,7 @@ fn push_more(
 ) -> Result<(), AllocError>
     ensures { OnOk result (out.new.items ≡ out.old.items ++ more_line problem.now graph.now) }
 {
-    let nodes = graph.nodes.as_slice();
-    if nodes.len() < problem.starts().len() || leads_on(graph.edges.as_slice()) {
+    if is_cut(problem, graph) {
         return out.extend_from_slice(b"more [label=\"...\", shape=plaintext];\n");
     }
     Ok(())
