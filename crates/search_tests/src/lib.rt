@@ -10,6 +10,8 @@ mod numbers;
 #[cfg(test)]
 mod problems;
 #[cfg(test)]
+mod relaxed;
+#[cfg(test)]
 mod seeds;
 #[cfg(test)]
 mod table;
