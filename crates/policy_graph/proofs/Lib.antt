@@ -7,3 +7,4 @@ pub mod Joining
 pub mod Followed
 pub mod Drawn
 pub mod Reaching
+pub mod Whole
