@@ -5,6 +5,8 @@ pub mod Hearing
 pub mod Rounding
 pub mod Counting
 pub mod Whole
+pub mod Means
+pub mod Watching
 pub mod Looping
 pub mod Dividing
 pub mod Making

@@ -6,7 +6,7 @@ use Rattle.ground_model.specs.Packed.{State}
 use Rattle.ground_model.specs.Ground.{Ground}
 use Rattle.ground_model.specs.Steps.{ground_process, ground_starts}
 use Rattle.word_table.specs.view.Views.{seen_lower}
-use Rattle.word_table.proofs.lemmas.view.Seen.{has_state_more}
+use Rattle.word_table.proofs.lemmas.view.Seen.{has_state_more, more_is_later}
 use Rattle.word_table.specs.Seen.{Board, Knowledge}
 use Rattle.bellman_backup.specs.declared.means.Means.{Means}
 use Rattle.bellman_backup.specs.means.Means.{seen_value}
@@ -19,7 +19,10 @@ use Rattle.trial_workers.specs.Crews.{IsCrewOf, FirstHas, IsListed, HaveStayed, 
 use Rattle.trial_workers.specs.Rounds.{with_pass}
 use Rattle.trial_workers.specs.Effort.{HaveRounds, IsWithinPlain, IsPlainWide, FirstHasSeen, FirstIsWithin}
 use Rattle.trial_workers.proofs.Rounding.{first_stays, first_is_crew, first_trials, stayed_again}
+use Rattle.trial_workers.specs.Watching.{Encloses}
+use Rattle.trial_workers.proofs.Passes.{seen_value_falls}
 use Rattle.trial_workers.proofs.Counting.{rounds_stay, no_rounds}
+use Rattle.trial_workers.proofs.Means.{floors_rise, ceilings_rise}
 
 -- ---- a reading
 
@@ -79,6 +82,28 @@ reads_idle : (b : Board) (gap : ℕ) (m : Means) (os ns : List Worker) → First
 reads_idle b gap m [] ns read within = absurd read
 reads_idle b gap m (o ∷ os) [] read within = absurd read
 reads_idle b gap m (o ∷ os) (n ∷ ns) read within = omega (arith, within, read.3.means.lower_since, read.3.means.upper_since)
+
+-- a reading is no wider than one that was seen before
+seen_stays : (b : Board) (s : Solved) (os ns : List Worker) → HaveStayed b os ns → FirstHasSeen b.problem s os → FirstHasSeen b.problem s ns
+seen_stays b s [] ns stayed seen = absurd seen
+seen_stays b s (o ∷ os) [] stayed seen = absurd stayed
+seen_stays b s (o ∷ os) (n ∷ ns) stayed seen =
+    let later = more_is_later o.pass.view n.pass.view stayed.0.noted in
+    let rises = floors_rise b.problem (seen_lower o.pass.view) (seen_lower n.pass.view) later.lower in
+    let falls = ceilings_rise b.problem (seen_value n.pass.view) (seen_value o.pass.view) (seen_value_falls o.pass.view n.pass.view later) in
+    ((let was = seen.0 in omega arith), (let was = seen.1 in omega arith))
+
+reads_narrower : (b : Board) (s : Solved) (r : ℕ) (m : Means) (os ns : List Worker) → FirstReads b os ns m → FirstHasSeen b.problem s os → Encloses s (answer r m)
+reads_narrower b s r m [] ns read seen = absurd read
+reads_narrower b s r m (o ∷ os) [] read seen = absurd read
+reads_narrower b s r m (o ∷ os) (n ∷ ns) read seen = record {
+  lower = (let was = seen.0 in let since = read.3.means.lower_since in omega arith);
+  upper = (let was = seen.1 in let since = read.3.means.upper_since in omega arith);
+}
+
+pub read_again : (b : Board) (s : Solved) (r : ℕ) (m : Means) (os mid ns : List Worker) → FirstHasSeen b.problem s os → HaveStayed b os mid → FirstReads b mid ns m
+    → Encloses s (answer r m)
+read_again b s r m os mid ns seen stayed read = reads_narrower b s r m mid ns read (seen_stays b s os mid stayed seen)
 
 -- a reading that is too wide is no wider than plain iteration
 plain_is_wide : (b : Board) (x : Extent) (gap r : ℕ) (m : Means) → IsWithinPlain b.problem x.depth (answer r m)

@@ -4,5 +4,6 @@ pub mod Workers
 pub mod Rounds
 pub mod Crews
 pub mod Effort
+pub mod Watching
 pub mod explorer
 pub mod calls

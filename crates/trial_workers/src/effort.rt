@@ -1,5 +1,7 @@
 //! How long is solved.
 
+ghost use Rattle.std.specs.Prelude.{◌↔◌, ◌+◌, ◌≤◌, IsTrue};
+
 use brtdp_trial::Ends;
 
 /// How long rounds are made, and which trials.
@@ -30,4 +32,13 @@ pub struct Solved {
     pub lower: u64,
     /// The mean of the upper bounds, rounded up, in micro-units.
     pub upper: u64,
+}
+
+impl Solved {
+    /// Whether the means differ by at most the gap.
+    pub(crate) fn is_within(self, gap: u64) -> bool
+        ensures { IsTrue result ↔ (self.upper ≤ self.lower + gap) }
+    {
+        self.upper.saturating_sub(self.lower) <= gap
+    }
 }
