@@ -1,6 +1,7 @@
 #!/bin/sh
 # Solves each text of a folder with a program, once where trials end after the most steps and once where they end at new
-# states, and prints a table. What stands behind the folder are options of `solve`.
+# states, and prints a table. What stands behind the folder are options of `solve`; WORKERS is how many workers there
+# are (1).
 #
 #     examples/instances.py FOLDER && examples/instances.sh ./ppddl_plan FOLDER --gap 0.1
 set -eu
@@ -17,7 +18,7 @@ cells() {
     text=$2
     shift 2
     begun=$(date +%s.%N)
-    report=$("$program" solve "$text" --cert "$certificate" --workers 1 --states 262144 --ends "$ends" "$@") || [ $? -eq 1 ]
+    report=$("$program" solve "$text" --cert "$certificate" --workers "${WORKERS:-1}" --states 262144 --ends "$ends" "$@") || [ $? -eq 1 ]
     ended=$(date +%s.%N)
     echo "$report" | awk -v seconds="$(echo "$ended $begun" | awk '{ print $1 - $2 }')" '
         NR == 1 { closed = $1 == "converged" ? "closed" : ($2 == "table-full" ? "full" : "open") }

@@ -6,7 +6,7 @@ use Rattle.shelf_io.specs.Causes.{Rose}
 use Rattle.shelf_io.specs.Shelf.{Told}
 use Rattle.certificate.specs.Content.{Content}
 use Rattle.ground_model.specs.Ground.{Ground}
-use Rattle.plan_request.specs.Asked.{Sources, Solving, Merging, Asked, to_solve, to_check, to_serve, to_ground, to_bench, to_merge, to_walk}
+use Rattle.plan_request.specs.Asked.{Sources, Solving, Merging, Drawing, Asked, to_solve, to_check, to_serve, to_ground, to_bench, to_merge, to_walk, to_draw}
 use Rattle.plan_request.specs.Laws.{IsInRange}
 use Rattle.plan_report.specs.Reports.{accepted_text}
 use Rattle.plan_search.specs.declared.answer.Answer.{Answer}
@@ -28,7 +28,7 @@ use Rattle.plan_app.specs.Asking.{Asks, AsksToWrite}
 use Rattle.plan_app.specs.Judging.{IsJudged, said_of}
 use Rattle.plan_app.specs.Merging.{IsPair}
 use Rattle.plan_app.specs.Walking.{walked_text}
-use Rattle.plan_app.specs.Endings.{said_by, Exchange, exchange, AnswersLine, AnswersJudged, AnswersWritten, AnswersSearch, AnswersSolve, AnswersPair, AnswersMerge, reported, Lacks, Answers, EndsBehind, Faults, MayEndRequest, HasService, MayEndWords}
+use Rattle.plan_app.specs.Endings.{said_by, Exchange, exchange, AnswersLine, AnswersJudged, AnswersWritten, AnswersSearch, AnswersSolve, AnswersPair, AnswersMerge, AnswersGraph, AnswersDraw, reported, Lacks, Answers, EndsBehind, Faults, MayEndRequest, HasService, MayEndWords}
 use Rattle.plan_app.specs.Verdicts.{answers_to, IsAnswerTo}
 use Rattle.plan_app.proofs.Exchanges.{stops_by_fault, take_rose}
 use Rattle.plan_app.proofs.Judged.{IsOfCertificate, certificate_status, judged_stops}
@@ -98,7 +98,7 @@ module _ {S I : Type 0} (held : S → List ℕ → Told) (reads writes : S → �
       texts_stop (answers_to (to_solve s)) (2, omega arith, refl) (3, omega arith, refl) (4, omega arith, refl) stops s.sources stop e
       (so stop refl) says
 
-  -- `merge` and `walk` have the same statuses as `check`
+  -- `merge`, `walk` and `draw` have the same statuses as `check`
   check_answers : (s : Sources) (name : List ℕ) (text : Ground → Content → List ℕ) (r : Result Ground Stop) (e : Ending)
       → ((stop : Stop) → r ≡ Err stop → IsOfTexts stop) → AnswersJudged (held old) name text r e → IsAnswerTo (to_check s name) (ending_status e)
   check_answers s name text (Ok g) e so (rc, is, says) =
@@ -128,6 +128,26 @@ module _ {S I : Type 0} (held : S → List ℕ → Told) (reads writes : S → �
   merge_answers m (Ok g) e so no_rise (r, pair, answers) = pair_answers m g r pair e no_rise answers
   merge_answers m (Err stop) e so no_rise says =
       texts_stop (answers_to (to_merge m)) (1, omega arith, refl) (2, omega arith, refl) (4, omega arith, refl) stops m.sources stop e
+      (so stop refl) says
+
+  -- and so has the text of a graph
+  graph_answers : (d : Drawing) (g : Ground) (r : Result Content Stop) → IsJudged g (held old d.certificate) r → (e : Ending)
+      → (Rose (writes old) (writes new) → ⊥) → AnswersGraph held writes old new d g r e → IsAnswerTo (to_draw d) (ending_status e)
+  graph_answers d g (Ok c) judged e no_rise (inl wrote) =
+      subst (Among (answers_to (to_draw d))) wrote.says
+      (subst (λ b. Among (answers_to (to_draw d)) (Ok (said_by b wrote.answer.report))) (sym wrote.is_answer.converged) (0, omega arith, refl))
+  graph_answers d g (Ok c) judged e no_rise (inr (inl (stop, none, says))) = absurd none
+  graph_answers d g (Ok c) judged e no_rise (inr (inr (says, rose))) = absurd (no_rise rose)
+  graph_answers d g (Err stop) judged e no_rise says =
+      subst (Among (answers_to (to_draw d))) says
+      (certificate_stop (answers_to (to_draw d)) (1, omega arith, refl) (2, omega arith, refl) (4, omega arith, refl) (3, omega arith, refl)
+      stop (judged_stops g (held old d.certificate) stop judged))
+
+  draw_answers : (d : Drawing) (r : Result Ground Stop) (e : Ending) → ((stop : Stop) → r ≡ Err stop → IsOfTexts stop)
+      → (Rose (writes old) (writes new) → ⊥) → AnswersDraw held writes old new d r e → IsAnswerTo (to_draw d) (ending_status e)
+  draw_answers d (Ok g) e so no_rise (r, judged, answers) = graph_answers d g r judged e no_rise answers
+  draw_answers d (Err stop) e so no_rise says =
+      texts_stop (answers_to (to_draw d)) (1, omega arith, refl) (2, omega arith, refl) (4, omega arith, refl) stops d.sources stop e
       (so stop refl) says
 
   ground_answers : (s : Sources) (r : Result Ground Stop) (e : Ending) → ((stop : Stop) → r ≡ Err stop → IsOfTexts stop)
@@ -163,6 +183,8 @@ module _ {S I : Type 0} (held : S → List ℕ → Told) (reads writes : S → �
       merge_answers m r e (so_stopped m.sources t r is) (λ rose. faults (inr rose)) rest
   answers_among (to_walk w) e within (r, (t, are, is), rest) faults =
       check_answers w.sources w.certificate (walked_text w) r e (so_stopped w.sources t r is) rest
+  answers_among (to_draw d) e within (r, (t, are, is), rest) faults =
+      draw_answers d r e (so_stopped d.sources t r is) (λ rose. faults (inr rose)) rest
 
   memory_among : (q : Asked) → IsAnswerTo q 5
   memory_among (to_solve s) = (2, omega arith, refl)
@@ -172,6 +194,7 @@ module _ {S I : Type 0} (held : S → List ℕ → Told) (reads writes : S → �
   memory_among (to_bench places seed) = (2, omega arith, refl)
   memory_among (to_merge m) = (1, omega arith, refl)
   memory_among (to_walk w) = (1, omega arith, refl)
+  memory_among (to_draw d) = (1, omega arith, refl)
 
   reads_rose : (q : Asked) → Rose (reads old) (reads new) → Faults reads writes takes old new from to q
   reads_rose (to_solve s) rose = inl rose
@@ -181,6 +204,7 @@ module _ {S I : Type 0} (held : S → List ℕ → Told) (reads writes : S → �
   reads_rose (to_bench places seed) rose = rose
   reads_rose (to_merge m) rose = inl rose
   reads_rose (to_walk w) rose = rose
+  reads_rose (to_draw d) rose = inl rose
 
   -- a request that met no fault has an answer
   answer_for : (q : Asked) (e : Ending) → IsInRange q → MayEndRequest held reads writes old new q e → (Lacks (held old) q → ⊥)
@@ -232,6 +256,7 @@ module _ {S I : Type 0} (held : S → List ℕ → Told) (reads writes : S → �
   answer_with (to_bench places seed) e within (inr service) lacks faults written = absurd service
   answer_with (to_merge m) e within (inr service) lacks faults written = absurd service
   answer_with (to_walk w) e within (inr service) lacks faults written = absurd service
+  answer_with (to_draw d) e within (inr service) lacks faults written = absurd service
 
 -- a certificate that was not written is a fault of its request
 pub write_rose : {S I : Type 0} (reads writes : S → ℕ) (takes : I → ℕ) (old new : S) (from to : I) (words : List (Bor (List ℕ)))
@@ -242,6 +267,9 @@ write_rose reads writes takes old new from to words q asks (inl (s, inl solves))
 write_rose reads writes takes old new from to words q asks (inl (s, inr serves)) rose =
     let same : to_serve s ≡ q = cc (asks, serves) in
     subst (Faults reads writes takes old new from to) same (inr (inl rose))
-write_rose reads writes takes old new from to words q asks (inr (m, merges)) rose =
+write_rose reads writes takes old new from to words q asks (inr (inl (m, merges))) rose =
     let same : to_merge m ≡ q = cc (asks, merges) in
+    subst (Faults reads writes takes old new from to) same (inr rose)
+write_rose reads writes takes old new from to words q asks (inr (inr (d, draws))) rose =
+    let same : to_draw d ≡ q = cc (asks, draws) in
     subst (Faults reads writes takes old new from to) same (inr rose)

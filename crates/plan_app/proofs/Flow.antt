@@ -6,7 +6,7 @@ use Rattle.shelf_io.specs.Causes.{Rose, RisesByOneAtMost}
 use Rattle.shelf_io.specs.Shelf.{Told, Missing, written}
 use Rattle.certificate.specs.Content.{Content}
 use Rattle.ground_model.specs.Ground.{Ground}
-use Rattle.plan_request.specs.Asked.{Sources, Solving, Merging, Asked, to_solve, to_check, to_serve, to_ground, to_bench, to_merge, to_walk}
+use Rattle.plan_request.specs.Asked.{Sources, Solving, Merging, Drawing, Asked, to_solve, to_check, to_serve, to_ground, to_bench, to_merge, to_walk, to_draw}
 use Rattle.plan_search.specs.declared.answer.Answer.{Answer}
 use Rattle.plan_search.specs.Answers.{IsAnswerOf, IsTooLong}
 use Rattle.plan_search.specs.Under.{IsAnswerWith}
@@ -28,7 +28,8 @@ use Rattle.plan_sources.proofs.Taking.{stops_whole, ends_whole, fault_since, fau
 use Rattle.plan_app.specs.declared.pair.Pair.{Pair}
 use Rattle.plan_app.specs.Judging.{IsJudged}
 use Rattle.plan_app.specs.Merging.{IsPair, LacksOne, IsAboveLimit, IsMergeAnswer}
-use Rattle.plan_app.specs.Endings.{said_by, AnswersBench, AnswersJudged, HasProblem, LacksBehind, Lacks, AnswersWritten, AnswersSearch, Answers, EndsBehind, MayEndRequest, IsHeld, IsMergeHeld, OnlyWrites, LeavesForWords, CallsBehind}
+use Rattle.plan_app.specs.Drawing.{IsDrawAnswer}
+use Rattle.plan_app.specs.Endings.{said_by, AnswersBench, AnswersJudged, HasProblem, LacksBehind, Lacks, AnswersWritten, AnswersSearch, Answers, EndsBehind, MayEndRequest, IsHeld, IsMergeHeld, IsDrawHeld, OnlyWrites, LeavesForWords, CallsBehind}
 use Rattle.plan_app.specs.Putting.{PutsAnswers}
 use Rattle.plan_app.proofs.Exchanges.{has_put, put_rose}
 
@@ -289,6 +290,54 @@ module _ {S : Type 0} (held : S → List ℕ → Told) (reads writes : S → ℕ
           holds = holds;
         }
 
+  -- ---- `draw`
+
+  module _ (d : Drawing) where
+    pub draw_stops : (new : S) (e : Stop)
+        → MayEnd (IsFault reads old new (LacksText (held old) d.sources)) (MayGiveProblem (held old) d.sources) (Err e)
+        → MayEndRequest held reads writes old new (to_draw d) (Err e)
+    draw_stops new e ends =
+        stops_whole (IsFault reads old new (LacksText (held old) d.sources)) (IsFault reads old new (Lacks (held old) (to_draw d)))
+        (MayGiveProblem (held old) d.sources) (Answers held writes old new (to_draw d))
+        (fault_before reads old new new (LacksText (held old) d.sources) (Lacks (held old) (to_draw d)) (omega arith) inl)
+        (λ stop given. (Err stop, given, refl)) e ends
+
+    module _ (g : Ground) (given : MayGiveProblem (held old) d.sources (Ok g)) where
+      module _ (mid : S) (same : held mid ≡ held old) where
+        pub drawn_since : (r : Result Content Stop) → IsJudged g (held mid d.certificate) r → IsJudged g (held old d.certificate) r
+        drawn_since r judged = subst (λ (h : List ℕ → Told). IsJudged g (h d.certificate) r) same judged
+
+        pub undrawn_stops : (new : S) → reads old ≤ reads mid → (e : Stop)
+            → MayEnd (IsFault reads mid new (held mid d.certificate ≡ Missing)) (IsJudged g (held mid d.certificate)) (Err e)
+            → MayEndRequest held reads writes old new (to_draw d) (Err e)
+        undrawn_stops new later e ends =
+            stops_whole (IsFault reads mid new (held mid d.certificate ≡ Missing)) (IsFault reads old new (Lacks (held old) (to_draw d)))
+            (IsJudged g (held mid d.certificate)) (Answers held writes old new (to_draw d))
+            (fault_since reads old mid new (held mid d.certificate ≡ Missing) (Lacks (held old) (to_draw d)) later
+            (λ missing. inr (subst (λ (h : List ℕ → Told). h d.certificate ≡ Missing) same missing, (g, given))))
+            (λ stop judged. (Ok g, given, (Err stop, drawn_since (Err stop) judged, refl))) e ends
+
+      module _ (c : Content) (judged : IsJudged g (held old d.certificate) (Ok c)) where
+        pub draw_ends : (new : S) (e : Ending)
+            → (e ≡ Err NoMemory) ⊎ AnswersWritten held writes old new d.into (IsDrawAnswer g c d.states) (λ stop. ⊥) e
+            → MayEndRequest held reads writes old new (to_draw d) e
+        draw_ends new e ends =
+            written_ends held writes old new d.into (IsDrawAnswer g c d.states) (λ stop. ⊥)
+            (IsFault reads old new (Lacks (held old) (to_draw d))) (Answers held writes old new (to_draw d))
+            (λ e answers. (Ok g, given, (Ok c, judged, answers))) (λ stop none. absurd none) e ends
+
+        pub draw_held : (answer : Answer) → IsDrawAnswer g c d.states answer → (new : S)
+            → held new d.into ≡ written (held old d.into) answer.certificate → IsDrawHeld held reads writes old new d
+        draw_held answer is_answer new holds = record {
+          g = g;
+          problem = given;
+          c = c;
+          is_judged = judged;
+          answer = answer;
+          is_answer = is_answer;
+          holds = holds;
+        }
+
   -- ---- `serve`
 
   module _ (s : Solving) where
@@ -447,6 +496,7 @@ unchanged held reads writes shelf asked = by_request asked
     by_request (Some (to_bench places seed)) = refl
     by_request (Some (to_merge m)) = nothing_written held reads writes shelf shelf m.into (IsMergeHeld held reads writes shelf shelf m) only_read
     by_request (Some (to_walk w)) = only_read
+    by_request (Some (to_draw d)) = nothing_written held reads writes shelf shelf d.into (IsDrawHeld held reads writes shelf shelf d) only_read
 
 -- ---- faults of writes
 

@@ -14,5 +14,7 @@ pub mod Below
 pub mod Solved
 pub mod Merged
 pub mod Numbered
+pub mod Noted
 pub mod Walked
+pub mod Drawn
 pub mod lemmas

@@ -14,7 +14,7 @@ use Rattle.ppddl_model.specs.Laws.{WellFormedSums}
 use Rattle.ppddl_model.specs.declared.tree.Task.{Task}
 use Rattle.ground_model.specs.Ground.{Ground}
 use Rattle.plan_app.specs.certificates.Laws.{NamesAreCarried, BalanceIsCarried, TaskIsEnclosed, TaskPolicyEnds}
-use Rattle.plan_request.specs.Asked.{Sources, Solving, Walking, Asked, to_solve, to_check, to_serve, to_ground, to_bench, to_merge, to_walk}
+use Rattle.plan_request.specs.Asked.{Sources, Solving, Walking, Drawing, Asked, to_solve, to_check, to_serve, to_ground, to_bench, to_merge, to_walk, to_draw}
 use Rattle.plan_request.specs.Laws.{AreTerms}
 use Rattle.plan_request.specs.declared.stop.report.Report.TheVariants.{Done, GapLeft}
 use Rattle.plan_request.specs.declared.stop.Stop.{Stop}
@@ -31,11 +31,11 @@ use Rattle.plan_app.specs.Asking.{asked_by, IsToServe, Asks, AsksNothing, AsksTo
 use Rattle.plan_app.specs.Endings.{Exchange, exchange, Lacks, Answers, EndsBehind, MayEndRequest, HasService, ServiceFor, MayEndWords, MayEndAs}
 use Rattle.plan_report.specs.Reports.{accepted_text}
 use Rattle.plan_app.specs.Walking.{walked_text}
-use Rattle.plan_app.specs.Verdicts.{sources_of, TellsTexts, TellsGround, TellsCheck, TellsWalk, TellsJudged, HasVerdict, IsDecoded, IsRefused, IsLimited, IsGrounded, IsTooLongFor, IsAccepted, IsRejected, MayBeTooLong, PutsRefusal, PutsProblem, PutsReport, EndsSoon}
+use Rattle.plan_app.specs.Verdicts.{sources_of, TellsTexts, TellsGround, TellsCheck, TellsWalk, TellsDraw, TellsJudged, HasVerdict, IsDecoded, IsRefused, IsLimited, IsGrounded, IsTooLongFor, IsAccepted, IsRejected, MayBeTooLong, PutsRefusal, PutsProblem, PutsReport, EndsSoon}
 use Rattle.plan_app.specs.Putting.{PutsAnswers, PutsPart, IsSaid, SaysPut, SaysCutShort}
 use Rattle.plan_app.proofs.Exchanges.{prefix_behind, take_rose}
 use Rattle.plan_app.proofs.Named.{names_balanced, names_enclose, names_end}
-use Rattle.plan_app.proofs.Verdict.{CheckEnds, IsReported, Leads, SaysOfTexts, WritesAlone, said_by_status, leads, led_refused, service_led, answers_words, service_texts, service_words, unwritten, text_verdict, ground_verdict, ground_reported, check_verdict, check_reported}
+use Rattle.plan_app.proofs.Verdict.{CheckEnds, IsReported, Leads, SaysOfTexts, WritesAlone, said_by_status, drawn_judged, leads, led_refused, service_led, answers_words, service_texts, service_words, unwritten, text_verdict, ground_verdict, ground_reported, check_verdict, check_reported}
 
 -- ---- endings of requests
 
@@ -117,6 +117,7 @@ module _ {S : Type 0} (held : S → List ℕ → Told) (reads writes : S → ℕ
   service_to_serve (to_bench places seed) e service = absurd service
   service_to_serve (to_merge m) e service = absurd service
   service_to_serve (to_walk w) e service = absurd service
+  service_to_serve (to_draw d) e service = absurd service
 
   read_failed_for : (asked : Option Asked) (e : Ending) → MayEndWords held reads writes old new x asked e → ending_status e ≡ 3
       → ((q : Asked) × (asked ≡ Some q) × Lacks (held old) q)
@@ -155,6 +156,7 @@ module _ {S : Type 0} (held : S → List ℕ → Told) (reads writes : S → ℕ
   no_memory_for (to_bench places seed) e service = absurd service
   no_memory_for (to_merge m) e service = absurd service
   no_memory_for (to_walk w) e service = absurd service
+  no_memory_for (to_draw d) e service = absurd service
 
   memory_may_end : (asked : Option Asked) (e : Ending) → MayEndWords held reads writes old new x asked e
       → MayEndWords held reads writes old new x asked (Err NoMemory)
@@ -346,7 +348,7 @@ module _ {S : Type 0} {held : S → List ℕ → Told} {reads writes : S → ℕ
         }
 
     module _ (law : TextsAreRead) (balance : AcceptedIsBalanced) (f : List ℕ) where
-      -- how `check` and `walk` end
+      -- how `check`, `walk` and `draw` end
       record IsEnded : Type 0 where
         pub texts : HoldsTexts (held old) s t
         pub name : List ℕ
@@ -383,9 +385,27 @@ module _ {S : Type 0} {held : S → List ℕ → Told} {reads writes : S → ℕ
             );
           }
 
+      abbrev draw_ended : (d : Drawing) → d.sources ≡ s → TellsDraw words (held old) d t f → HasVerdict status → IsEnded
+      draw_ended d same tells verdict =
+          let answers = answers_of (to_draw d) tells.asks (λ none. none) verdict in
+          let judged = drawn_judged held writes old new d answers.1.0 ends.ending answers.1.2 (verdict_of verdict) in
+          record {
+            texts = subst (λ (x : Sources). HoldsTexts (held old) x t) same tells.texts;
+            name = d.certificate;
+            certificate = tells.certificate;
+            report = λ (g : Ground) (c : Content). judged.0;
+            text_is = answers.0;
+            answers = (
+              answers.1.0,
+              subst (λ (x : Sources). MayGiveProblem (held old) x answers.1.0) same answers.1.1,
+              judged.1,
+            );
+          }
+
       judged_ended : TellsJudged words (held old) s t f → HasVerdict status → IsEnded
       judged_ended (inl tells) verdict = check_ended tells verdict
-      judged_ended (inr (w, same, tells)) verdict = walk_ended w same tells verdict
+      judged_ended (inr (inl (w, same, tells))) verdict = walk_ended w same tells verdict
+      judged_ended (inr (inr (d, same, tells))) verdict = draw_ended d same tells verdict
 
       judged_verdict : (ended : IsEnded) → HasVerdict status
           → ((status ≡ 0) ↔ IsAccepted s t f) × ((status ≡ 7) ↔ IsRejected s t f)

@@ -1,5 +1,5 @@
 -- What the status of an answer says of texts and of a certificate that a shelf tells.
-use Rattle.std.proofs.Common.{◌≡◌, ◌≢◌, ℕ, ◌⊎◌, inl, inr, Bool, true, false, List, refl, sym, ap, ◌∙◌, subst, arith, Option, Some, None, Result, Ok, Err}
+use Rattle.std.proofs.Common.{◌≡◌, ◌≢◌, ℕ, ◌⊎◌, inl, inr, Bool, true, false, List, [], refl, sym, ap, ◌∙◌, subst, arith, Option, Some, None, Result, Ok, Err}
 use Rattle.std.specs.Prelude.{◌↔◌}
 use Rattle.shelf_io.specs.Causes.{Rose}
 use Rattle.shelf_io.specs.Shelf.{Told, Holds}
@@ -9,7 +9,7 @@ use Rattle.certificate_check.specs.Claims.{IsBalancedFor}
 use Rattle.certificate_check.specs.Laws.{AcceptedIsBalanced}
 use Rattle.ppddl_model.specs.declared.refusal.TextCode.{TextCode}
 use Rattle.ground_model.specs.Ground.{Ground}
-use Rattle.plan_request.specs.Asked.{Sources, Solving, Merging, Asked, to_solve, to_check, to_serve, to_ground, to_bench, to_merge, to_walk}
+use Rattle.plan_request.specs.Asked.{Sources, Solving, Merging, Drawing, Asked, to_solve, to_check, to_serve, to_ground, to_bench, to_merge, to_walk, to_draw}
 use Rattle.plan_report.specs.Line.{line_text}
 use Rattle.plan_report.specs.Reports.{accepted_text, ground_text}
 use Rattle.plan_request.specs.declared.stop.Stop.{Stop}
@@ -31,7 +31,8 @@ use Rattle.plan_app.specs.Measuring.{line_sources}
 use Rattle.plan_app.specs.Judging.{IsJudged, said_of}
 use Rattle.plan_app.specs.Merging.{IsPair, IsAboveLimit, IsMergeAnswer}
 use Rattle.plan_app.specs.Walking.{walked_text}
-use Rattle.plan_app.specs.Endings.{said_by, Exchange, AnswersLine, AnswersJudged, AnswersWritten, AnswersSearch, AnswersSolve, AnswersPair, AnswersMerge, reported, Answers, EndsBehind, HasService, ServiceFor}
+use Rattle.plan_app.specs.Drawing.{IsDrawAnswer}
+use Rattle.plan_app.specs.Endings.{said_by, Exchange, AnswersLine, AnswersJudged, AnswersWritten, AnswersSearch, AnswersSolve, AnswersPair, AnswersMerge, AnswersGraph, AnswersDraw, reported, Answers, EndsBehind, HasService, ServiceFor}
 use Rattle.plan_app.specs.Verdicts.{sources_of, IsTooLongFor, HasVerdict, IsRefused, IsLimited, IsGrounded, IsDecoded, IsAccepted, IsRejected}
 use Rattle.plan_app.proofs.Exchanges.{stops_by_fault}
 use Rattle.plan_app.proofs.Judged.{IsOfCertificate, certificate_status, judged_stops, judged_balanced, IsNone, IsSoOf, judged_so}
@@ -134,9 +135,10 @@ limit_status g c d stop (inr (is, long)) = ap status_of is
 
 -- ---- over all requests
 
--- a request that writes a certificate, without a server
+-- a request that writes a text, without a server
 abbrev pub WritesAlone : Option Asked → Type 0
-WritesAlone asked = ((s : Solving) × (asked ≡ Some (to_solve s))) ⊎ ((m : Merging) × (asked ≡ Some (to_merge m)))
+WritesAlone asked = ((s : Solving) × (asked ≡ Some (to_solve s)))
+    ⊎ (((m : Merging) × (asked ≡ Some (to_merge m))) ⊎ ((d : Drawing) × (asked ≡ Some (to_draw d))))
 
 module _ {S : Type 0} (held : S → List ℕ → Told) (writes : S → ℕ) (old new : S) where
   -- behind a certificate that is written
@@ -175,6 +177,33 @@ module _ {S : Type 0} (held : S → List ℕ → Told) (writes : S → ℕ) (old
       → AnswersJudged (held old) name text r e → Leads (λ g. ⊥) r e
   check_leads name text (Ok g) e (rc, judged, says) = judged_leads ⊥ g (held old name) (text g) rc judged e says
   check_leads name text (Err stop) e says = says
+
+  -- behind the graph of a certificate's policy
+  graph_leads : (d : Drawing) (g : Ground) (r : Result Content Stop) → IsJudged g (held old d.certificate) r → (e : Ending)
+      → AnswersGraph held writes old new d g r e → IsOfProblem ⊥ (ending_status e)
+  graph_leads d g (Ok c) judged e answers =
+      written_leads ⊥ d.into (IsDrawAnswer g c d.states) (λ stop. ⊥) (λ stop none. absurd none) e answers
+  graph_leads d g (Err stop) judged e says =
+      subst (λ e. IsOfProblem ⊥ (ending_status e)) says (stop_leads ⊥ stop (judged_stops g (held old d.certificate) stop judged))
+
+  draw_leads : (d : Drawing) (r : Result Ground Stop) (e : Ending) → AnswersDraw held writes old new d r e → Leads (λ g. ⊥) r e
+  draw_leads d (Ok g) e (r, judged, answers) = graph_leads d g r judged e answers
+  draw_leads d (Err stop) e says = says
+
+  -- what is put of a graph, as what is said of a certificate
+  graph_said : (d : Drawing) (g : Ground) (r : Result Content Stop) (e : Ending) → AnswersGraph held writes old new d g r e
+      → HasVerdict (ending_status e) → (report : List ℕ) × (said_of (λ (c : Content). report) r ≡ e)
+  graph_said d g (Ok c) e (inl wrote) verdict =
+      let a = wrote.answer in
+      (a.report, subst (λ b. Ok (said_by b a.report) ≡ e) wrote.is_answer.converged wrote.says)
+  graph_said d g (Ok c) e (inr (inl (stop, none, says))) verdict = absurd none
+  graph_said d g (Ok c) e (inr (inr (says, rose))) verdict = absurd (verdict.no_write_fault (sym (ap ending_status says)))
+  graph_said d g (Err stop) e says verdict = ([], says)
+
+  pub drawn_judged : (d : Drawing) (r : Result Ground Stop) (e : Ending) → AnswersDraw held writes old new d r e
+      → HasVerdict (ending_status e) → (report : List ℕ) × AnswersJudged (held old) d.certificate (λ (g : Ground) (c : Content). report) r e
+  drawn_judged d (Ok g) e (r, judged, answers) verdict = let said = graph_said d g r e answers verdict in (said.0, (r, judged, said.1))
+  drawn_judged d (Err stop) e says verdict = ([], says)
 
   ground_leads : (r : Result Ground Stop) (e : Ending) → reported (held old) r ≡ e → Leads (λ g. ⊥) r e
   ground_leads (Ok g) e says = subst (λ e. IsOfProblem ⊥ (ending_status e)) says (zero_leads ⊥ 0 refl)
@@ -219,6 +248,9 @@ module _ {S : Type 0} (held : S → List ℕ → Told) (writes : S → ℕ) (old
     leads s (to_walk x) is e (r, given, rest) =
         let same : x.sources ≡ s = cc is in
         (r, subst (λ y. MayGiveProblem (held old) y r) same given, check_leads x.certificate (walked_text x) r e rest)
+    leads s (to_draw x) is e (r, given, rest) =
+        let same : x.sources ≡ s = cc is in
+        (r, subst (λ y. MayGiveProblem (held old) y r) same given, draw_leads x r e rest)
 
   -- words that ask for something are no bad words
   led_words : (s : Sources) (t : Texts) (long : Ground → Type 0) → TextsStopSo → (r : Result Ground Stop) → problem_of s t ≡ r
@@ -254,6 +286,7 @@ module _ {S : Type 0} (held : S → List ℕ → Told) (writes : S → ℕ) (old
   answers_words stops (to_merge m) e (r, (t, are, is), rest) = merge_words stops m t r is e rest
   answers_words stops (to_walk w) e (r, (t, are, is), rest) =
       led_words w.sources t (λ g. ⊥) stops r is e (check_leads w.certificate (walked_text w) r e rest)
+  answers_words stops (to_draw d) e (r, (t, are, is), rest) = led_words d.sources t (λ g. ⊥) stops r is e (draw_leads d r e rest)
 
   -- a certificate that was not written is one of a search
   texts_unwritten : TextsStopSo → (s : Sources) (t : Texts) (r : Result Ground Stop) → problem_of s t ≡ r → (stop : Stop) → r ≡ Err stop
@@ -299,6 +332,18 @@ module _ {S : Type 0} (held : S → List ℕ → Told) (writes : S → ℕ) (old
   merge_unwritten m (Ok g) so (r, pair, answers) = pair_unwritten m g r pair answers
   merge_unwritten m (Err stop) so says = absurd (so stop refl (cc says))
 
+  graph_unwritten : (d : Drawing) (g : Ground) (r : Result Content Stop) → IsJudged g (held old d.certificate) r
+      → AnswersGraph held writes old new d g r (Err WriteFailed) → Rose (writes old) (writes new)
+  graph_unwritten d g (Ok c) judged answers =
+      written_unwritten d.into (IsDrawAnswer g c d.states) (λ stop. ⊥) (λ stop none. absurd none) answers
+  graph_unwritten d g (Err stop) judged says =
+      absurd (certificate_unwritten stop (judged_stops g (held old d.certificate) stop judged) (cc says))
+
+  draw_unwritten : (d : Drawing) (r : Result Ground Stop) → ((stop : Stop) → r ≡ Err stop → stop ≡ WriteFailed → ⊥)
+      → AnswersDraw held writes old new d r (Err WriteFailed) → Rose (writes old) (writes new)
+  draw_unwritten d (Ok g) so (r, judged, answers) = graph_unwritten d g r judged answers
+  draw_unwritten d (Err stop) so says = absurd (so stop refl (cc says))
+
   ground_unwritten : (r : Result Ground Stop) → ((stop : Stop) → r ≡ Err stop → stop ≡ WriteFailed → ⊥)
       → reported (held old) r ≡ Err WriteFailed → ⊥
   ground_unwritten (Ok g) so says = cc says
@@ -320,9 +365,11 @@ module _ {S : Type 0} (held : S → List ℕ → Told) (writes : S → ℕ) (old
   unwritten stops (to_bench places seed) (r, is, rest) =
       absurd (line_unwritten places seed r (texts_unwritten stops line_sources (one_text (line_text places seed)) r is) rest)
   unwritten stops (to_merge m) (r, (t, are, is), rest) =
-      (inr (m, refl), merge_unwritten m r (texts_unwritten stops m.sources t r is) rest)
+      (inr (inl (m, refl)), merge_unwritten m r (texts_unwritten stops m.sources t r is) rest)
   unwritten stops (to_walk w) (r, (t, are, is), rest) =
       absurd (check_unwritten w.certificate (walked_text w) r (texts_unwritten stops w.sources t r is) rest)
+  unwritten stops (to_draw d) (r, (t, are, is), rest) =
+      (inr (inr (d, refl)), draw_unwritten d r (texts_unwritten stops d.sources t r is) rest)
 
 -- what a status says of texts
 pub record SaysOfTexts (s : Sources) (t : Texts) (long : Ground → Type 0) (status : ℕ) : Type 0 where
@@ -404,6 +451,7 @@ module _ {S : Type 0} (held : S → List ℕ → Told) (reads writes : S → ℕ
   service_led s (to_bench places seed) is e service = absurd service
   service_led s (to_merge m) is e service = absurd service
   service_led s (to_walk w) is e service = absurd service
+  service_led s (to_draw d) is e service = absurd service
 
   pub service_texts : (q : Asked) (e : Ending) → ServiceFor held reads writes old new x q e → ending_status e ≢ 6
   service_texts (to_serve s) e service = (service_leads s e service).not_refused
@@ -413,6 +461,7 @@ module _ {S : Type 0} (held : S → List ℕ → Told) (reads writes : S → ℕ
   service_texts (to_bench places seed) e service = absurd service
   service_texts (to_merge m) e service = absurd service
   service_texts (to_walk w) e service = absurd service
+  service_texts (to_draw d) e service = absurd service
 
   pub service_words : (q : Asked) (e : Ending) → ServiceFor held reads writes old new x q e → ending_status e ≢ 2
   service_words (to_serve s) e service = (service_leads s e service).not_words
@@ -422,6 +471,7 @@ module _ {S : Type 0} (held : S → List ℕ → Told) (reads writes : S → ℕ
   service_words (to_bench places seed) e service = absurd service
   service_words (to_merge m) e service = absurd service
   service_words (to_walk w) e service = absurd service
+  service_words (to_draw d) e service = absurd service
 
 module _ (held : List ℕ → Told) (told : OneProblemIsTold) (stops : TextsStopSo) where
   -- what the status says of the texts
@@ -467,7 +517,7 @@ module _ (held : List ℕ → Told) where
         let so = reported_so r (told held s t texts r given) (ap ending_status says ∙ zero) in
         (so.0, so.1, sym says ∙ so.2)
 
-    -- ---- `check` and `walk`
+    -- ---- `check`, `walk` and `draw`
 
     module _ (law : TextsAreRead) (balance : AcceptedIsBalanced) (f : List ℕ) where
       abbrev BySeven : Ending → Type 0

@@ -39,7 +39,7 @@ use Rattle.plan_app.specs.Verdicts.{TellsWalk}
 use Rattle.plan_app.specs.Walks.{IsRunOfTask, PutsWalks}
 use Rattle.plan_app.proofs.Statuses.{walks_put}
 
-states_are_exact : IsExact same_state
+pub states_are_exact : IsExact same_state
 states_are_exact x y = same_state-Decides x y
 
 packed_states_are_exact : IsExact packed.same_state
@@ -52,7 +52,7 @@ module _ (carried : stands.IsCarried) (started : stands.StartsAreCarried) (back 
   is_policy : IsPolicy (ground_process g) (act_in g c)
   is_policy s a off acts = (balanced.balanced.balanced s).high_follows.is_open a off acts
 
-  policy_of_task : IsPolicyOf (ground_process g) (by_atoms g task) (act_in g c) (act same_state (task_certificate g task c).rows)
+  pub policy_of_task : IsPolicyOf (ground_process g) (by_atoms g task) (act_in g c) (act same_state (task_certificate g task c).rows)
   policy_of_task = record {
     is_open = λ a s valid off acts. is_policy s a off acts;
     acts = λ s valid off.

@@ -17,6 +17,7 @@
 --                                 either of these, or that the certificate is above this limit
 --     AnswersSearch .. s g Is e   the same of one that a search found
 --     AnswersPair .. m g r e      the same of the one that two certificates are merged to, or what stops the run at them
+--     AnswersGraph .. d g r e     the same of the text of the graph of a certificate's policy, or what stops the run at the certificate
 --     Answers .. q e              the ending of a request, but for a server, by what the texts say and the certificate behind them
 --     MayEndRequest .. q e        the same, or want of memory, or a failed read
 --     EndsBehind .. s g replies stop e
@@ -27,7 +28,9 @@
 --     MayEndAs .. words .. status text
 --                                 a run with these words may end with this status, and put this text: answers, and the ending's
 --     Faults .. q                 a count of faults rose that such a request may raise
---     IsHeld, IsMergeHeld .. x    the text of a certificate that was found, or merged, is held under the name that the request gives
+--     IsHeld, IsMergeHeld, IsDrawHeld .. x
+--                                 the text of a certificate that was found, or merged, or that of a graph, is held under the name that the
+--                                 request gives
 --     OnlyWrites .. name Is       under the name all is as it was, or this is so of it, or a write failed; no other name changes
 --     Leaves .. q, LeavesForWords .. asked
 --                                 what is held afterwards, and which counts of faults rose
@@ -46,7 +49,7 @@ use Rattle.policy_server.specs.declared.served.Served.{Served}
 use Rattle.policy_server.specs.Replies.{Reply, FollowEach}
 use Rattle.policy_server.specs.Serving.{Input, HasAnswered}
 use Rattle.plan_search.specs.service.Served.{IsSound}
-use Rattle.plan_request.specs.Asked.{Sources, Solving, Merging, Asked, to_solve, to_check, to_serve, to_ground, to_bench, to_merge, to_walk}
+use Rattle.plan_request.specs.Asked.{Sources, Solving, Merging, Drawing, Asked, to_solve, to_check, to_serve, to_ground, to_bench, to_merge, to_walk, to_draw}
 use Rattle.plan_report.specs.Reports.{accepted_text, ground_text}
 use Rattle.plan_search.specs.declared.answer.Answer.{Answer}
 use Rattle.plan_search.specs.declared.measured.Measured.{Measured}
@@ -66,6 +69,7 @@ use Rattle.plan_app.specs.Asking.{asked_by}
 use Rattle.plan_app.specs.Judging.{IsJudged, said_of}
 use Rattle.plan_app.specs.Merging.{IsPair, LacksOne, IsAboveLimit, IsMergeAnswer}
 use Rattle.plan_app.specs.Walking.{walked_text}
+use Rattle.plan_app.specs.Drawing.{IsDrawAnswer}
 use Rattle.plan_app.specs.Measuring.{line_problem, bench_effort, bench_sizes, bench_line}
 
 -- ---- what is said of a search
@@ -134,6 +138,7 @@ module _ (held : List ℕ → Told) where
   Lacks (to_bench places seed) = ⊥
   Lacks (to_merge m) = LacksText held m.sources ⊎ LacksOneOf m
   Lacks (to_walk w) = LacksBehind w.sources w.certificate
+  Lacks (to_draw d) = LacksBehind d.sources d.certificate
 
 -- ---- by what a shelf held before and after, and by its count of failed writes
 
@@ -165,6 +170,14 @@ module _ {S : Type 0} (held : S → List ℕ → Told) (writes : S → ℕ) (old
   AnswersMerge m (Ok g) e = (r : Result Pair Stop) × IsPair g (held old m.first) (held old m.second) r × AnswersPair m g r e
   AnswersMerge m (Err stop) e = Err stop ≡ e
 
+  abbrev pub AnswersGraph : Drawing → Ground → Result Content Stop → Ending → Type 0
+  AnswersGraph d g (Ok c) e = AnswersWritten d.into (IsDrawAnswer g c d.states) (λ stop. ⊥) e
+  AnswersGraph d g (Err stop) e = Err stop ≡ e
+
+  abbrev pub AnswersDraw : Drawing → Result Ground Stop → Ending → Type 0
+  AnswersDraw d (Ok g) e = (r : Result Content Stop) × IsJudged g (held old d.certificate) r × AnswersGraph d g r e
+  AnswersDraw d (Err stop) e = Err stop ≡ e
+
   abbrev pub Answers : Asked → Ending → Type 0
   Answers (to_solve s) e = (r : Result Ground Stop) × MayGiveProblem (held old) s.sources r × AnswersSolve s r e
   Answers (to_check s name) e =
@@ -175,6 +188,7 @@ module _ {S : Type 0} (held : S → List ℕ → Told) (writes : S → ℕ) (old
   Answers (to_merge m) e = (r : Result Ground Stop) × MayGiveProblem (held old) m.sources r × AnswersMerge m r e
   Answers (to_walk w) e =
       (r : Result Ground Stop) × MayGiveProblem (held old) w.sources r × AnswersJudged (held old) w.certificate (walked_text w) r e
+  Answers (to_draw d) e = (r : Result Ground Stop) × MayGiveProblem (held old) d.sources r × AnswersDraw d r e
 
   -- behind a server
   abbrev pub EndsBehind : Solving → Ground → List Reply → Option Stop → Ending → Type 0
@@ -205,6 +219,16 @@ module _ {S : Type 0} (held : S → List ℕ → Told) (reads writes : S → ℕ
     pub is_answer : IsMergeAnswer g pair.first pair.second answer
     pub holds : held new m.into ≡ written (held old m.into) answer.certificate
 
+  -- the name holds the text of the graph of a certificate's policy
+  pub record IsDrawHeld (d : Drawing) : Type 0 where
+    pub g : Ground
+    pub problem : MayGiveProblem (held old) d.sources (Ok g)
+    pub c : Content
+    pub is_judged : IsJudged g (held old d.certificate) (Ok c)
+    pub answer : Answer
+    pub is_answer : IsDrawAnswer g c d.states answer
+    pub holds : held new d.into ≡ written (held old d.into) answer.certificate
+
   -- under the name all is as it was, or such a text is held, or a write failed
   pub record OnlyWrites (name : List ℕ) (Is : Type 0) : Type 0 where
     pub certificate : (held new name ≡ held old name) ⊎ (Is ⊎ Rose (writes old) (writes new))
@@ -220,6 +244,7 @@ module _ {S : Type 0} (held : S → List ℕ → Told) (reads writes : S → ℕ
   Leaves (to_bench places seed) = new ≡ old
   Leaves (to_merge m) = OnlyWrites m.into (IsMergeHeld m)
   Leaves (to_walk w) = OnlyRead held reads writes old new
+  Leaves (to_draw d) = OnlyWrites d.into (IsDrawHeld d)
 
   abbrev pub LeavesForWords : Option Asked → Type 0
   LeavesForWords None = OnlyRead held reads writes old new
@@ -244,6 +269,7 @@ module _ {S : Type 0} (held : S → List ℕ → Told) (reads writes : S → ℕ
   ServiceFor (to_bench places seed) e = ⊥
   ServiceFor (to_merge m) e = ⊥
   ServiceFor (to_walk w) e = ⊥
+  ServiceFor (to_draw d) e = ⊥
 
   abbrev pub MayEndWords : Option Asked → Ending → Type 0
   MayEndWords None e = IsSilent x × ((e ≡ Err BadWords) ⊎ (e ≡ Err NoMemory))
@@ -268,6 +294,7 @@ module _ {S I : Type 0} (reads writes : S → ℕ) (takes : I → ℕ) (old new 
   Faults (to_bench places seed) = Rose (reads old) (reads new)
   Faults (to_merge m) = Rose (reads old) (reads new) ⊎ Rose (writes old) (writes new)
   Faults (to_walk w) = Rose (reads old) (reads new)
+  Faults (to_draw d) = Rose (reads old) (reads new) ⊎ Rose (writes old) (writes new)
 
 -- ---- by the shelf's count of calls
 
@@ -285,6 +312,7 @@ module _ {S : Type 0} (held : S → List ℕ → Told) (calls : S → ℕ) (old 
   CallsFor (to_bench places seed) = calls new ≡ calls old
   CallsFor (to_merge m) = CallsBehind 3 m.sources
   CallsFor (to_walk w) = CallsBehind 1 w.sources
+  CallsFor (to_draw d) = CallsBehind 2 d.sources
 
   abbrev pub CallsForWords : Option Asked → Type 0
   CallsForWords None = calls new ≡ calls old

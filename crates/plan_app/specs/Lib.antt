@@ -3,12 +3,15 @@ pub mod Measuring
 pub mod Judging
 pub mod Merging
 pub mod Walking
+pub mod Drawing
 pub mod Endings
 pub mod Verdicts
 pub mod Solutions
 pub mod Below
 pub mod Merged
 pub mod Walks
+pub mod Drawn
 pub mod Putting
+pub mod Reasons
 pub mod Examples
 pub mod certificates

@@ -3,7 +3,9 @@
 --     TellsGround words held s t    they ask for their ground problem
 --     TellsCheck words held s t f   they ask for the check of the bytes f, which it tells too
 --     TellsWalk words held w t f    they ask for walks under the certificate of the bytes f, which it tells too
---     TellsJudged words held s t f  either of these
+--     TellsDraw words held d t f    they ask for the graph of the policy of the certificate of the bytes f, which it tells too; and
+--                                   something is told of the name under which its text goes
+--     TellsJudged words held s t f  one of these three: a check, walks or a graph
 --     TellsSearch words held command s t
 --                                   they ask by this command to solve it, and something is told of the name of the certificate
 --     HasVerdict status             the status speaks of the words or of bytes, and not of a fault or of memory
@@ -39,7 +41,7 @@ use Rattle.ppddl_model.specs.declared.tree.Task.{Task}
 use Rattle.ppddl_model.specs.Steps.{Charges, process, starts, start_den, step_den, least_step_cost}
 use Rattle.ground_model.specs.Ground.{Ground}
 use Rattle.plan_app.specs.certificates.Named.{names_certificate}
-use Rattle.plan_request.specs.Asked.{Sources, Solving, Walking, Asked, to_solve, to_check, to_serve, to_ground, to_bench, to_merge, to_walk}
+use Rattle.plan_request.specs.Asked.{Sources, Solving, Walking, Drawing, Asked, to_solve, to_check, to_serve, to_ground, to_bench, to_merge, to_walk, to_draw}
 use Rattle.plan_report.specs.Reports.{accepted_text, ground_text}
 use Rattle.plan_search.specs.Answers.{IsTooLong}
 use Rattle.plan_request.specs.declared.stop.status.TheConstants.{DONE, GAP_LEFT, READ_FAILED, WRITE_FAILED, NO_MEMORY, REFUSED, NOT_ACCEPTED, LIMIT}
@@ -62,6 +64,7 @@ sources_of (to_ground s) = Some s
 sources_of (to_bench places seed) = None
 sources_of (to_merge m) = Some m.sources
 sources_of (to_walk w) = Some w.sources
+sources_of (to_draw d) = Some d.sources
 
 module _ (words : List (Bor (List ℕ))) (held : List ℕ → Told) (s : Sources) (t : Texts) where
   pub record TellsTexts : Type 0 where
@@ -86,8 +89,15 @@ module _ (words : List (Bor (List ℕ))) (held : List ℕ → Told) where
     pub texts : HoldsTexts held w.sources t
     pub certificate : held w.certificate ≡ Holds f
 
+  pub record TellsDraw (d : Drawing) (t : Texts) (f : List ℕ) : Type 0 where
+    pub asks : Asks words (to_draw d)
+    pub texts : HoldsTexts held d.sources t
+    pub certificate : held d.certificate ≡ Holds f
+    pub into : held d.into ≢ Untold
+
   abbrev pub TellsJudged : Sources → Texts → List ℕ → Type 0
-  TellsJudged s t f = TellsCheck words held s t f ⊎ ((w : Walking) × (w.sources ≡ s) × TellsWalk w t f)
+  TellsJudged s t f = TellsCheck words held s t f
+      ⊎ (((w : Walking) × (w.sources ≡ s) × TellsWalk w t f) ⊎ ((d : Drawing) × (d.sources ≡ s) × TellsDraw d t f))
 
 module _ (words : List (Bor (List ℕ))) (held : List ℕ → Told) (command : Solving → Asked) (s : Solving) (t : Texts) where
   pub record TellsSearch : Type 0 where
@@ -113,6 +123,7 @@ answers_to (to_ground s) = DONE ∷ NO_MEMORY ∷ REFUSED ∷ LIMIT ∷ []
 answers_to (to_bench places seed) = DONE ∷ GAP_LEFT ∷ NO_MEMORY ∷ []
 answers_to (to_merge m) = DONE ∷ NO_MEMORY ∷ REFUSED ∷ NOT_ACCEPTED ∷ LIMIT ∷ []
 answers_to (to_walk w) = DONE ∷ NO_MEMORY ∷ REFUSED ∷ NOT_ACCEPTED ∷ LIMIT ∷ []
+answers_to (to_draw d) = DONE ∷ NO_MEMORY ∷ REFUSED ∷ NOT_ACCEPTED ∷ LIMIT ∷ []
 
 abbrev pub IsAnswerTo : Asked → ℕ → Type 0
 IsAnswerTo q status = Contains (answers_to q) status
@@ -151,6 +162,7 @@ IsTooLongFor (to_ground s) g = ⊥
 IsTooLongFor (to_bench places seed) g = ⊥
 IsTooLongFor (to_merge m) g = (c : Content) × (d : Content) × IsBalancedFor g c × IsBalancedFor g d × ((stop : Stop) × IsAboveLimit g c d stop)
 IsTooLongFor (to_walk w) g = ⊥
+IsTooLongFor (to_draw d) g = ⊥
 
 pub record MayBeTooLong (words : List (Bor (List ℕ))) (s : Sources) (t : Texts) : Type 0 where
   pub request : Asked

@@ -14,6 +14,7 @@ ghost use Rattle.plan_app.specs.Endings.{Leaves, LeavesForWords};
 ghost use Rattle.plan_app.specs.Putting.{PutsAnswers, CountsOn};
 
 use crate::benching::bench;
+use crate::drawing::draw;
 use crate::judging::check;
 use crate::merging::merge;
 use crate::serving::serve;
@@ -94,6 +95,7 @@ fn answer<R: Threads + Sync, S: Shelf, I: Source, O: Sink, G: Gate>(
         Request::Bench { places, seed } => bench(rt, alloc, *places, *seed, gate),
         Request::Merge(merging) => merge(alloc, merging, shelf),
         Request::Walk(walking) => walk(alloc, walking, shelf),
+        Request::Draw(drawing) => draw(alloc, drawing, shelf),
     }
 }
 

@@ -5,10 +5,12 @@
 mod benching;
 mod certificates;
 mod commands;
+mod drawing;
 mod judging;
 mod merging;
 mod pair;
 mod program;
+mod reasons;
 mod serving;
 mod solving;
 mod walking;

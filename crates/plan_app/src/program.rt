@@ -9,13 +9,13 @@ ghost use Rattle.plan_request.specs.declared.stop.status.TheConstants.{WRITE_FAI
 ghost use Rattle.plan_request.specs.declared.stop.status.TheConstants.{NOT_ACCEPTED, LIMIT};
 ghost use Rattle.plan_request.specs.declared.stop.Stop.TheVariants.{WriteFailed};
 ghost use Rattle.policy_server.specs.Serving.{input};
-ghost use Rattle.plan_request.specs.Asked.{Asked, Sources, Solving, Merging, Walking};
+ghost use Rattle.plan_request.specs.Asked.{Asked, Sources, Solving, Merging, Walking, Drawing};
 ghost use Rattle.plan_request.specs.Asked.{to_solve, to_serve, to_bench};
 ghost use Rattle.plan_sources.specs.declared.texts.Texts.{Texts};
 ghost use Rattle.plan_app.specs.Asking.{asked_by, Asks, AsksNothing, AsksToWrite, AsksToServe};
 ghost use Rattle.plan_app.specs.Endings.{Lacks, Faults, MayEndAs, LeavesForWords, CallsForWords};
 ghost use Rattle.plan_app.specs.Verdicts.{TellsTexts, TellsGround, TellsCheck, TellsJudged};
-ghost use Rattle.plan_app.specs.Verdicts.{TellsSearch, TellsWalk};
+ghost use Rattle.plan_app.specs.Verdicts.{TellsSearch, TellsWalk, TellsDraw};
 ghost use Rattle.plan_app.specs.Verdicts.{HasVerdict, HasReport, IsAnswerTo};
 ghost use Rattle.plan_app.specs.Verdicts.{IsRefused, IsLimited, IsGrounded, IsAccepted, IsRejected};
 ghost use Rattle.plan_app.specs.Verdicts.{MayBeTooLong, PutsRefusal, PutsProblem, PutsReport};
@@ -24,10 +24,13 @@ ghost use Rattle.plan_app.specs.Solutions.{PutsService, PutsMeasure};
 ghost use Rattle.plan_app.specs.Below.{PutsSolved};
 ghost use Rattle.plan_app.specs.Merged.{TellsMerge, IsMerged, IsUnmerged, PutsMerged};
 ghost use Rattle.plan_app.specs.Walks.{PutsWalks};
+ghost use Rattle.plan_app.specs.Drawn.{PutsDrawn};
 ghost use Rattle.plan_app.specs.Putting.{PutsPart, SaysPut, SaysCutShort};
+ghost use Rattle.plan_app.specs.Reasons.{HasReason, PutsReason};
 
 use crate::certificates::task_certificate_laws;
 use crate::commands::report_of;
+use crate::reasons::{put_reason, stop_in};
 use bench_line::line_laws;
 use cert_merge::merged_laws;
 use certificate::text_laws;
@@ -44,15 +47,16 @@ use std::thread::Threads;
 
 /// Runs the program with the words behind its name, and answers its status.
 ///
-/// `check`, `walk`, `ground` and `bench` change nothing on the shelf; `solve`, `serve` and `merge` change the name
-/// of the certificate that they write alone. Under `serve` alone something is taken from the source.
-pub fn run<R: Threads + Sync, S: Shelf, I: Source + Send, O: Sink + Send, G: Gate>(
+/// `check`, `walk`, `ground` and `bench` change nothing on the shelf; `solve`, `serve`, `merge` and `draw` change
+/// the name of the text that they write alone. Under `serve` alone something is taken from the source.
+pub fn run<R: Threads + Sync, S: Shelf, I: Source + Send, O: Sink + Send, N: Sink + Send, G: Gate>(
     rt: &R,
     alloc: Global,
     words: &[&str],
     shelf: &mut S,
     source: &mut I,
     out: &mut O,
+    notes: &mut N,
     gate: &G,
 ) -> u8
     // How a run ends: the answers of a server and the whole text of the ending are put, or after 4 at most
@@ -116,6 +120,13 @@ pub fn run<R: Threads + Sync, S: Shelf, I: Source + Send, O: Sink + Send, G: Gat
         → TellsWalk words.now (S.held shelf.old) w t f
         → result ≡ DONE → PutsWalks w t f (O.taken out.old) (O.taken out.new) }
 
+    // The text of the graph of the certificate's policy was written: states that the policy reaches from the
+    // starts, with what the certificate says of them and the outcomes of what is done there.
+    ensures draws { (d : Drawing) (t : Texts) (f : List ℕ)
+        → TellsDraw words.now (S.held shelf.old) d t f
+        → result ≡ DONE → PutsDrawn d t f (S.held shelf.new d.into)
+        (O.taken out.old) (O.taken out.new) }
+
     // The certificate that two were merged to was written. It is one that `check` accepts, and its interval lies
     // in both.
     ensures merges { (m : Merging) (t : Texts) (f f' : List ℕ)
@@ -166,6 +177,12 @@ pub fn run<R: Threads + Sync, S: Shelf, I: Source + Send, O: Sink + Send, G: Gat
     ensures shelf { LeavesForWords S.held S.read_faults S.write_faults shelf.old shelf.new
         (asked_by words.now) }
     ensures source { AsksToServe words.now ⊎ (source.new ≡ source.old) }
+    // Where words ask for nothing, texts are refused, a certificate is not accepted or a limit is passed, it is
+    // noted what is wrong and where, behind what was noted before; want of memory and faults are free. With any
+    // other status nothing is.
+    ensures reasons { HasReason result → PutsReason words.now result (O.taken out.new)
+        (N.faults notes.old) (N.faults notes.new) (N.taken notes.old) (N.taken notes.new) }
+    ensures no_reasons { ¬ HasReason result → notes.new ≡ notes.old }
 {
     // The laws on which the clauses rest.
     request_laws();
@@ -182,11 +199,38 @@ pub fn run<R: Threads + Sync, S: Shelf, I: Source + Send, O: Sink + Send, G: Gat
     task_certificate_laws();
     task_progress_laws();
     let ending = report_of(rt, alloc, words, shelf, source, out, gate);
-    put_ending(alloc, out, ending)
+    put_ending(alloc, words, out, notes, ending)
+}
+
+/// Puts the report or the line of the stop, and answers the status; 4 where it was not put whole. Behind the line
+/// of a stop its reason is put on `notes`.
+fn put_ending<O: Sink, N: Sink>(
+    alloc: Global,
+    words: &[&str],
+    out: &mut O,
+    notes: &mut N,
+    ending: Result<Report, Stop>,
+) -> u8
+    ensures put { result ≢ WRITE_FAILED
+        → SaysPut ending result (O.taken out.old) (O.taken out.new) }
+    ensures cut_short { result ≡ WRITE_FAILED
+        → SaysCutShort ending (O.taken out.old) (O.taken out.new) }
+    ensures memory { result ≡ NO_MEMORY → O.taken out.new ≡ O.taken out.old }
+    ensures write_failed { result ≡ WRITE_FAILED
+        → Rose (O.faults out.old) (O.faults out.new) ⊎ (ending ≡ Err WriteFailed) }
+    ensures unwritten { ending ≡ Err WriteFailed → out.new ≡ out.old }
+    ensures reasons { HasReason result → PutsReason words.now result (O.taken out.new)
+        (N.faults notes.old) (N.faults notes.new) (N.taken notes.old) (N.taken notes.new) }
+    ensures no_reasons { ¬ HasReason result → notes.new ≡ notes.old }
+{
+    let stopped = stop_in(&ending);
+    let status = put_answer(alloc, out, ending);
+    put_reason(alloc, words, notes, stopped, status);
+    status
 }
 
 /// Puts the report or the line of the stop, and answers the status; 4 where it was not put whole.
-fn put_ending<O: Sink>(alloc: Global, out: &mut O, ending: Result<Report, Stop>) -> u8
+fn put_answer<O: Sink>(alloc: Global, out: &mut O, ending: Result<Report, Stop>) -> u8
     ensures put { result ≢ WRITE_FAILED
         → SaysPut ending result (O.taken out.old) (O.taken out.new) }
     ensures cut_short { result ≡ WRITE_FAILED

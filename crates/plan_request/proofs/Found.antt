@@ -4,23 +4,23 @@ use Rattle.std.specs.Prelude.{find, codes, nat_eq, option_map, option_and_then}
 use Rattle.std.proofs.lemmas.Option.{option_and_then_some, cond_some}
 use Rattle.std.specs.Str.{bytes_eq}
 use Rattle.plan_request.specs.words.Words.{Text, Item, is_among, positionals_of, read}
-use Rattle.plan_request.specs.words.Table.{Form, forms, run_options, solve_form, check_form, serve_form, ground_form, bench_form, merge_form, walk_form}
+use Rattle.plan_request.specs.words.Table.{Form, forms, run_options, solve_form, check_form, serve_form, ground_form, bench_form, merge_form, walk_form, draw_form}
 use Rattle.plan_request.specs.words.Scans.{behind_name, formed, if_counted}
 use Rattle.plan_request.specs.words.Parses.{HasValues}
 use Rattle.plan_request.specs.declared.words.parsing.Parsed.{Parsed}
 use Rattle.plan_request.specs.declared.command.Command.{Command}
-use Rattle.plan_request.specs.declared.command.Command.TheVariants.{Solve, Check, Serve, Ground, Bench, Merge, Walk}
+use Rattle.plan_request.specs.declared.command.Command.TheVariants.{Solve, Check, Serve, Ground, Bench, Merge, Walk, Draw}
 use Rattle.plan_request.specs.declared.lower.Lower.{Lower}
 use Rattle.plan_request.specs.declared.lower.Lower.TheVariants as lowers
 use Rattle.plan_request.specs.Commands.{command_named}
-use Rattle.plan_request.specs.Asked.{Given, to_solve, to_serve, to_ground, to_merge, to_walk, given_in}
-use Rattle.plan_request.specs.Asked.{sources_of, effort_of, sizes_of, lower_of, solving_of, merging_of, walking_of, solved_of, checked_of, benched_of, asked_by}
+use Rattle.plan_request.specs.Asked.{Given, to_solve, to_serve, to_ground, to_merge, to_walk, to_draw, given_in}
+use Rattle.plan_request.specs.Asked.{sources_of, effort_of, sizes_of, lower_of, solving_of, merging_of, walking_of, drawing_of, solved_of, checked_of, benched_of, asked_by}
 use Rattle.plan_request.specs.Shown.{given_by}
 use Rattle.plan_request.proofs.Options.{chosen}
 
 -- ---- the command
 
-abbrev form_of : Command → Form
+abbrev pub form_of : Command → Form
 form_of Solve = solve_form
 form_of Check = check_form
 form_of Serve = serve_form
@@ -28,6 +28,7 @@ form_of Ground = ground_form
 form_of Bench = bench_form
 form_of Merge = merge_form
 form_of Walk = walk_form
+form_of Draw = draw_form
 
 behind_is : (ws : List Text) (o : Option Form) (f : Form) (items : List Item) → behind_name ws o ≡ Some (f, items) → o ≡ Some f
 behind_is ws None f items e = absurd (cc)
@@ -49,9 +50,12 @@ command_at w f e =
               | inl is ↦ (Bench, is)
               | inr g ↦ elim (chosen (bytes_eq (codes "merge") w) merge_form f _ g) [
                 | inl is ↦ (Merge, is)
-                | inr h ↦ elim (chosen (bytes_eq (codes "walk") w) walk_form f None h) [
+                | inr h ↦ elim (chosen (bytes_eq (codes "walk") w) walk_form f _ h) [
                   | inl is ↦ (Walk, is)
-                  | inr none ↦ absurd (let x : None ≡ Some f = none in cc)
+                  | inr k ↦ elim (chosen (bytes_eq (codes "draw") w) draw_form f None k) [
+                    | inl is ↦ (Draw, is)
+                    | inr none ↦ absurd (let x : None ≡ Some f = none in cc)
+                  ]
                 ]
               ]
             ]
@@ -60,7 +64,7 @@ command_at w f e =
       ]
     ]
 
-command_of : (ws : List Text) (f : Form) (items : List Item) → formed ws ≡ Some (f, items) → (c : Command) × (form_of c ≡ f)
+pub command_of : (ws : List Text) (f : Form) (items : List Item) → formed ws ≡ Some (f, items) → (c : Command) × (form_of c ≡ f)
 command_of [] f items e = absurd (let x : None ≡ Some (f, items) = e in cc)
 command_of (w ∷ ws) f items e = command_at w f (behind_is ws (find (λ f. bytes_eq f.name w) forms) f items e)
 
@@ -108,6 +112,11 @@ module _ (g h : Given) where
       → g (codes "steps") ≡ h (codes "steps") → walking_of g ≡ walking_of h
   unfolding walking_of
   walking_same a b c d e = rw (a, b, c, d, e) refl
+
+  drawing_same : sources_of g ≡ sources_of h → g (codes "cert") ≡ h (codes "cert") → g (codes "into") ≡ h (codes "into") → g (codes "states") ≡ h (codes "states")
+      → drawing_of g ≡ drawing_of h
+  unfolding drawing_of
+  drawing_same a b c d = rw (a, b, c, d) refl
 
 -- a command with these options that reads a task
 abbrev reading : Text → List Text → Form
@@ -171,6 +180,13 @@ asked_found Walk items p v =
     (walking_same g h
     (sources_same g h (v.words 0 (lit< tt)) (v.options (codes "problem") refl) (v.options (codes "penalty") refl) (v.options (codes "step-cost") refl))
     (v.options (codes "cert") refl) (v.options (codes "seed") refl) (v.options (codes "walks") refl) (v.options (codes "steps") refl))
+asked_found Draw items p v =
+    let g = given_by p in
+    let h = given_in draw_form items in
+    ap (option_map to_draw)
+    (drawing_same g h
+    (sources_same g h (v.words 0 (lit< tt)) (v.options (codes "problem") refl) (v.options (codes "penalty") refl) (v.options (codes "step-cost") refl))
+    (v.options (codes "cert") refl) (v.options (codes "into") refl) (v.options (codes "states") refl))
 
 pub found_asked : (ws : List Text) (f : Form) (items : List Item) (p : Parsed) → formed ws ≡ Some (f, items) → HasValues f items p
     → asked_by f.name (given_by p) ≡ asked_by f.name (given_in f items)

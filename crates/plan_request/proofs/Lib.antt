@@ -3,4 +3,5 @@ pub mod Parsing
 pub mod Ranges
 pub mod Found
 pub mod Requests
+pub mod Values
 pub mod lemmas

@@ -12,10 +12,10 @@ use Rattle.plan_request.specs.Commands.{command_named}
 use Rattle.plan_request.specs.declared.lower.Lower.{Lower}
 use Rattle.plan_request.specs.declared.lower.Lower.TheVariants as lowers
 use Rattle.plan_request.specs.declared.command.Command.{Command}
-use Rattle.plan_request.specs.declared.command.Command.TheVariants.{Solve, Check, Serve, Ground, Bench, Merge, Walk}
-use Rattle.plan_request.specs.Asked.{Given, Asked, to_serve, to_ground, to_merge, to_walk, given_in, lower_of, ends_of}
-use Rattle.plan_request.specs.Asked.{penalty_of, sources_of, effort_of, sizes_of, solving_of, merging_of, walking_of, solved_of, checked_of, benched_of, asked_as, asked_by, request_of}
-use Rattle.plan_request.specs.Laws.{IsBetween, AreTerms, IsEffort, AreSizes, IsSolving, IsMerging, IsWalking, IsInRange}
+use Rattle.plan_request.specs.declared.command.Command.TheVariants.{Solve, Check, Serve, Ground, Bench, Merge, Walk, Draw}
+use Rattle.plan_request.specs.Asked.{Given, Asked, to_serve, to_ground, to_merge, to_walk, to_draw, given_in, lower_of, ends_of}
+use Rattle.plan_request.specs.Asked.{penalty_of, sources_of, effort_of, sizes_of, solving_of, merging_of, walking_of, drawing_of, solved_of, checked_of, benched_of, asked_as, asked_by, request_of}
+use Rattle.plan_request.specs.Laws.{IsBetween, AreTerms, IsEffort, AreSizes, IsSolving, IsMerging, IsWalking, IsDrawing, IsInRange}
 use Rattle.plan_request.proofs.Options.{of_some, if_then_some, if_mapped, if_bound, if_any}
 
 and_left : (a b : Bool) → (a && b) ≡ true → a ≡ true
@@ -131,6 +131,15 @@ walking_in given =
     (λ walks c. if_bound _ IsWalking (unless_given 1000 (whole 1 10000) (given (codes "steps"))) _ (whole_in 1000 1 10000 (lit≤ tt, lit≤ tt) (given (codes "steps")))
     (λ steps d. record { terms = a; seed = omega (arith, b.1); walks = c; steps = d })))))
 
+drawing_in : (given : Given) → IfSome (drawing_of given) IsDrawing
+unfolding drawing_of
+drawing_in given =
+    if_bound AreTerms IsDrawing (sources_of given) _ (sources_in given)
+    (λ sources a. if_bound _ IsDrawing (given (codes "cert")) _ (if_any _)
+    (λ certificate _. if_bound _ IsDrawing (given (codes "into")) _ (if_any _)
+    (λ into _. if_bound _ IsDrawing (unless_given 200 (whole 1 10000) (given (codes "states"))) _ (whole_in 200 1 10000 (lit≤ tt, lit≤ tt) (given (codes "states")))
+    (λ states b. record { terms = a; states = b }))))
+
 solved_in : (given : Given) → IfSome (solved_of given) IsInRange
 unfolding solved_of
 solved_in given =
@@ -158,6 +167,7 @@ asked_in Ground given = if_mapped AreTerms IsInRange to_ground (sources_of given
 asked_in Bench given = benched_in given
 asked_in Merge given = if_mapped IsMerging IsInRange to_merge (merging_of given) (merging_in given) (λ m holds. holds)
 asked_in Walk given = if_mapped IsWalking IsInRange to_walk (walking_of given) (walking_in given) (λ w holds. holds)
+asked_in Draw given = if_mapped IsDrawing IsInRange to_draw (drawing_of given) (drawing_in given) (λ d holds. holds)
 
 asked_by_in : (name : Text) (given : Given) → IfSome (asked_by name given) IsInRange
 asked_by_in name given = if_bound _ IsInRange (command_named name) (λ command. asked_as command given) (if_any _) (λ command _. asked_in command given)

@@ -4,11 +4,12 @@
 --     lower_named name, lower_of text
 --                                  what is told of the cost from below where this is given; nothing where nothing is
 --     ends_named name, ends_of text
---                                  where trials end under this name; at the depth where none is given
+--                                  where trials end under this name; at the first new state where none is given
 --     Solving, solving_of lower given
 --                                  a task to solve, the name of its certificate, the search, and what it tells from below
 --     Merging, merging_of given    two certificates of a task to merge, and the name under which what comes of them goes
 --     Walking, walking_of given    walks to make under the policy of a certificate
+--     Drawing, drawing_of given    the graph of a certificate's policy to draw, and the name under which its text goes
 --     effort_of given, sizes_of given
 --                                  when the search ends and what its trials are, and its sizes
 --     Asked                        a request
@@ -22,7 +23,7 @@ use Rattle.plan_request.specs.words.Words.{Text, Item, positionals_of, value_of}
 use Rattle.plan_request.specs.words.Table.{Form}
 use Rattle.plan_request.specs.words.Scans.{formed}
 use Rattle.plan_request.specs.declared.command.Command.{Command}
-use Rattle.plan_request.specs.declared.command.Command.TheVariants.{Solve, Check, Serve, Ground, Bench, Merge, Walk}
+use Rattle.plan_request.specs.declared.command.Command.TheVariants.{Solve, Check, Serve, Ground, Bench, Merge, Walk, Draw}
 use Rattle.plan_request.specs.declared.effort.Effort.{Effort}
 use Rattle.plan_request.specs.declared.ends.Ends.{Ends}
 use Rattle.plan_request.specs.declared.ends.Ends.TheVariants as to
@@ -61,7 +62,7 @@ ends_named name =
     else None
 
 abbrev pub ends_of : Option Text → Option Ends
-ends_of = unless_given to.Depth ends_named
+ends_of = unless_given to.New ends_named
 
 unfoldable pub effort_of : Given → Option Effort
 effort_of given = do
@@ -144,6 +145,20 @@ walking_of given = do
   steps ← unless_given 1000 (whole 1 10000) (given (codes "steps"))
   Some (record { sources = sources; certificate = certificate; seed = seed; walks = walks; steps = steps })
 
+pub record Drawing : Type 0 where
+  pub sources : Sources
+  pub certificate : Text
+  pub into : Text
+  pub states : ℕ
+
+unfoldable pub drawing_of : Given → Option Drawing
+drawing_of given = do
+  sources ← sources_of given
+  certificate ← given (codes "cert")
+  into ← given (codes "into")
+  states ← unless_given 200 (whole 1 10000) (given (codes "states"))
+  Some (record { sources = sources; certificate = certificate; into = into; states = states })
+
 -- ---- requests
 
 pub data Asked : Type 0 where
@@ -155,6 +170,7 @@ pub data Asked : Type 0 where
   to_bench : ℕ → ℕ → Asked
   to_merge : Merging → Asked
   to_walk : Walking → Asked
+  to_draw : Drawing → Asked
 
 unfoldable pub solved_of : Given → Option Asked
 solved_of given = do
@@ -182,6 +198,7 @@ asked_as Ground given = option_map to_ground (sources_of given)
 asked_as Bench given = benched_of given
 asked_as Merge given = option_map to_merge (merging_of given)
 asked_as Walk given = option_map to_walk (walking_of given)
+asked_as Draw given = option_map to_draw (drawing_of given)
 
 abbrev pub asked_by : Text → Given → Option Asked
 asked_by name given = command_named name >>= λ command. asked_as command given

@@ -3,9 +3,9 @@ use Rattle.std.specs.Prelude.{◌≡◌, ◌^◌, [], ◌∷◌, Some, None, cod
 use Rattle.std.proofs.Common.{refl}
 use Rattle.plan_request.specs.Numbers.{whole, amount}
 use Rattle.plan_request.specs.Commands.{command_named}
-use Rattle.plan_request.specs.Asked.{penalty_of, sources_of, effort_of, sizes_of, ends_named, lower_named, solving_of, merging_of, walking_of, solved_of, checked_of, benched_of, request_of}
+use Rattle.plan_request.specs.Asked.{penalty_of, sources_of, effort_of, sizes_of, ends_named, lower_named, solving_of, merging_of, walking_of, drawing_of, solved_of, checked_of, benched_of, request_of}
 use Rattle.plan_request.specs.declared.ends.Ends.TheVariants as to
-use Rattle.plan_request.specs.Asked.{to_check, to_bench, to_merge, to_walk}
+use Rattle.plan_request.specs.Asked.{to_check, to_bench, to_merge, to_walk, to_draw}
 
 leading-zeros : whole 2 1000 (codes "0002") ≡ Some 2
 unfolding whole
@@ -86,3 +86,16 @@ walk-coin : request_of (codes "walk" ∷ codes "coin" ∷ codes "--cert" ∷ cod
 }))
 unfolding request_of command_named walking_of sources_of penalty_of whole amount
 walk-coin = refl
+
+draw-coin : request_of (codes "draw" ∷ codes "coin" ∷ codes "--cert" ∷ codes "c" ∷ codes "--into=g" ∷ []) ≡ Some (to_draw (record {
+  sources = record { domain = codes "coin"; problem = None; penalty = None; step_cost = 0 };
+  certificate = codes "c";
+  into = codes "g";
+  states = 200;
+}))
+unfolding request_of command_named drawing_of sources_of penalty_of whole amount
+draw-coin = refl
+
+draw-nothing : request_of (codes "draw" ∷ codes "coin" ∷ codes "--cert" ∷ codes "c" ∷ codes "--into" ∷ codes "g" ∷ codes "--states" ∷ codes "0" ∷ []) ≡ None
+unfolding request_of command_named drawing_of sources_of penalty_of whole amount
+draw-nothing = refl

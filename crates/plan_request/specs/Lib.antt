@@ -6,3 +6,4 @@ pub mod Laws
 pub mod Examples
 pub mod words
 pub mod stop
+pub mod reasons

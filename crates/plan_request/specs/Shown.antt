@@ -6,10 +6,11 @@ use Rattle.plan_request.specs.declared.sources.Sources.{Sources}
 use Rattle.plan_request.specs.declared.solving.Solving.{Solving}
 use Rattle.plan_request.specs.declared.merging.Merging.{Merging}
 use Rattle.plan_request.specs.declared.walking.Walking.{Walking}
+use Rattle.plan_request.specs.declared.drawing.Drawing.{Drawing}
 use Rattle.plan_request.specs.declared.request.Request.{Request}
 use Rattle.plan_request.specs.declared.request.Request.TheVariants as request
 use Rattle.plan_request.specs.Asked as asked
-use Rattle.plan_request.specs.Asked.{Asked, Given, to_solve, to_check, to_serve, to_ground, to_bench, to_merge, to_walk}
+use Rattle.plan_request.specs.Asked.{Asked, Given, to_solve, to_check, to_serve, to_ground, to_bench, to_merge, to_walk, to_draw}
 
 -- what clap found
 abbrev pub given_by : Parsed → Given
@@ -44,6 +45,14 @@ shown_walking w = record {
   steps = w.steps;
 }
 
+abbrev pub shown_drawing : Drawing → asked.Drawing
+shown_drawing d = record {
+  sources = shown_sources d.sources;
+  certificate = d.certificate.now;
+  into = d.into.now;
+  states = d.states;
+}
+
 abbrev pub shown_request : Request → Asked
 shown_request (request.Solve s) = to_solve (shown_solving s)
 shown_request (request.Check s f) = to_check (shown_sources s) f.now
@@ -52,3 +61,4 @@ shown_request (request.Ground s) = to_ground (shown_sources s)
 shown_request (request.Bench places seed) = to_bench places seed
 shown_request (request.Merge m) = to_merge (shown_merging m)
 shown_request (request.Walk w) = to_walk (shown_walking w)
+shown_request (request.Draw d) = to_draw (shown_drawing d)

@@ -13,6 +13,7 @@ pub(crate) enum Command {
     Bench,
     Merge,
     Walk,
+    Draw,
 }
 
 /// The command of this name.
@@ -40,6 +41,9 @@ pub(crate) fn command_named(name: &str) -> Option<Command>
     }
     if "walk" == name {
         return Some(Command::Walk);
+    }
+    if "draw" == name {
+        return Some(Command::Draw);
     }
     None
 }

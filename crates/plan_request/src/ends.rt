@@ -17,7 +17,7 @@ pub enum Ends {
 
 /// Where trials end under this name.
 #[tactic(auto, unfolding(crate::specs::Asked::ends_named))]
-fn ends_named(name: &str) -> Option<Ends>
+pub(crate) fn ends_named(name: &str) -> Option<Ends>
     ensures { result ≡ ends_named name.now }
 {
     if "depth" == name {
@@ -29,12 +29,12 @@ fn ends_named(name: &str) -> Option<Ends>
     None
 }
 
-/// Where the option lets them end: at the depth, where it is not given.
+/// Where the option lets them end: at the first new state, where it is not given.
 pub(crate) fn ends_of(parsed: &Parsed<'_>) -> Option<Ends>
     ensures { result ≡ ends_of (given_by parsed.now (codes "ends")) }
 {
     match parsed.value("ends") {
-        None => Some(Ends::Depth),
+        None => Some(Ends::New),
         Some(name) => ends_named(name),
     }
 }

@@ -3,12 +3,14 @@
 #![tactic(auto)]
 
 mod command;
+mod drawing;
 mod effort;
 mod ends;
 mod laws;
 mod lower;
 mod merging;
 mod numbers;
+mod reasons;
 mod request;
 mod sizes;
 mod solving;
@@ -17,11 +19,13 @@ mod stop;
 mod walking;
 mod words;
 
+pub use drawing::Drawing;
 pub use effort::Effort;
 pub use ends::Ends;
 pub use laws::request_laws;
 pub use lower::Lower;
 pub use merging::Merging;
+pub use reasons::reason_of;
 pub use request::{Request, request_of};
 pub use sizes::Sizes;
 pub use solving::Solving;

@@ -19,7 +19,7 @@ pub enum Lower {
 
 /// What is told where this name is given.
 #[tactic(auto, unfolding(crate::specs::Asked::lower_named))]
-fn lower_named(name: &str) -> Option<Lower>
+pub(crate) fn lower_named(name: &str) -> Option<Lower>
     ensures { result ≡ lower_named name.now }
 {
     if "none" == name {

@@ -25,7 +25,7 @@ fn between(number: u64, least: u64, most: u64) -> Option<u64>
 }
 
 /// A whole number from `least` to `most`.
-fn whole(digits: &str, least: u64, most: u64) -> Option<u64>
+pub(crate) fn whole(digits: &str, least: u64, most: u64) -> Option<u64>
     ensures { result ≡ whole least most digits.now }
 {
     let bytes = digits.as_bytes();

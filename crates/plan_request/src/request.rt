@@ -7,6 +7,7 @@ ghost use Rattle.plan_request.specs.Asked.{checked_of, benched_of};
 ghost use Rattle.plan_request.specs.Shown.{shown_request, given_by};
 
 use crate::command::{Command, command_named};
+use crate::drawing::{Drawing, drawing_of};
 use crate::lower::{Lower, lower_of};
 use crate::merging::{Merging, merging_of};
 use crate::numbers::{count_of, whole_of};
@@ -43,6 +44,8 @@ pub enum Request<'a> {
     Merge(Merging<'a>),
     /// To make walks under the policy of a certificate.
     Walk(Walking<'a>),
+    /// To draw the graph of the policy of a certificate.
+    Draw(Drawing<'a>),
 }
 
 /// The request of the words behind the program's name; None exactly where they have none. It is refused
@@ -80,6 +83,7 @@ fn asked_as<'a>(command: Command, parsed: &Parsed<'a>) -> Option<Request<'a>>
         Command::Bench => benched_of(parsed),
         Command::Merge => Some(Request::Merge(merging_of(parsed)?)),
         Command::Walk => Some(Request::Walk(walking_of(parsed)?)),
+        Command::Draw => Some(Request::Draw(drawing_of(parsed)?)),
     }
 }
 

@@ -31,6 +31,7 @@ fn main(rt: HostRuntime) -> ExitCode {
     let mut source = InputSource::make(reader);
     // Standard output holds nothing back: each answer is seen as it is put.
     let mut out = OutputSink::make(rt.stdout());
+    let mut notes = OutputSink::make(rt.stderr());
     let status = run_with(
         &rt,
         rt.alloc(),
@@ -38,6 +39,7 @@ fn main(rt: HostRuntime) -> ExitCode {
         &mut shelf,
         &mut source,
         &mut out,
+        &mut notes,
     );
     ExitCode::from(status)
 }
@@ -52,13 +54,14 @@ fn words_of(rt: &HostRuntime) -> Result<Vec<String>, AllocError> {
 }
 
 /// Runs the program with these words, and answers its status.
-fn run_with<R: Threads + Sync, S: Shelf, I: Source + Send, O: Sink + Send>(
+fn run_with<R: Threads + Sync, S: Shelf, I: Source + Send, O: Sink + Send, N: Sink + Send>(
     rt: &R,
     alloc: Global,
     words: &[String],
     shelf: &mut S,
     source: &mut I,
     out: &mut O,
+    notes: &mut N,
 ) -> u8
     ensures bad_words { result ≢ WRITE_FAILED → result ≢ NO_MEMORY
         → (result ≡ BAD_WORDS) ↔ (request_of (map string_bytes words.now) ≡ None) }
@@ -73,7 +76,16 @@ fn run_with<R: Threads + Sync, S: Shelf, I: Source + Send, O: Sink + Send>(
         ⊎ (source.new ≡ source.old) }
 {
     match lent(alloc, words) {
-        Ok(words) => run(rt, alloc, words.as_slice(), shelf, source, out, &FreeGate),
+        Ok(words) => run(
+            rt,
+            alloc,
+            words.as_slice(),
+            shelf,
+            source,
+            out,
+            notes,
+            &FreeGate,
+        ),
         Err(_) => NO_MEMORY,
     }
 }

@@ -8,6 +8,8 @@ mod certificates;
 #[cfg(test)]
 mod cuts;
 #[cfg(test)]
+mod drawing;
+#[cfg(test)]
 mod effects;
 #[cfg(test)]
 mod examples;
@@ -23,6 +25,8 @@ mod lowers;
 mod merging;
 #[cfg(test)]
 mod problems;
+#[cfg(test)]
+mod reasons;
 #[cfg(test)]
 mod reports;
 #[cfg(test)]

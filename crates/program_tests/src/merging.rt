@@ -260,7 +260,7 @@ static TURNS: [(&str, u8, &str); 7] = [
         "stopped budget\ninterval 64.000000 1000.000000",
     ),
     (
-        "solve road --cert r2 --penalty 1000 --workers 1 --seed 2 --trials 2 --depth 100 --rounds 2 --sweep-states 64",
+        "solve road --cert r2 --penalty 1000 --workers 1 --seed 2 --trials 2 --depth 100 --ends depth --rounds 2 --sweep-states 64",
         1,
         "stopped budget\ninterval 100.000000 1000.000000",
     ),

@@ -20,7 +20,7 @@ const DEEP: &str =
     "((((((((((((((((((((((((((((((((((((((((((((((((((((((((((((((((((((((((((((((((((((((((((((((((((((";
 
 /// Coins outside the language: what stands in place of what, the code, and its line.
-static REFUSED: [(&str, &str, u32, u32); 20] = [
+pub(crate) static REFUSED: [(&str, &str, u32, u32); 20] = [
     ("(:init)", "(:init) \x7f", 1, 8),
     ("(reward)))", "(reward))))", 2, 11),
     ("(:goal (done))", DEEP, 3, 9),

@@ -10,7 +10,7 @@ const DEFAULT_EFFORT: Effort = Effort {
     depth: 1_000,
     tau: 10,
     seed: 1,
-    ends: Ends::Depth,
+    ends: Ends::New,
 };
 
 const DEFAULT_SIZES: Sizes = Sizes {
@@ -23,12 +23,12 @@ const DEFAULT_SIZES: Sizes = Sizes {
 static SOLVING: [(&str, &str, Effort, Sizes); 2] = [
     ("solve coin --cert c", "c", DEFAULT_EFFORT, DEFAULT_SIZES),
     (
-        "solve --cert=c=d coin --gap 0.5 --seed 007 --states=65 --ends new",
+        "solve --cert=c=d coin --gap 0.5 --seed 007 --states=65 --ends depth",
         "c=d",
         Effort {
             gap: 500_000,
             seed: 7,
-            ends: Ends::New,
+            ends: Ends::Depth,
             ..DEFAULT_EFFORT
         },
         Sizes {
@@ -58,7 +58,7 @@ fn searches_have_defaults(rt: HostRuntime) -> Result<(), Fail> {
 }
 
 /// Words that ask for nothing.
-static BAD: [&str; 20] = [
+static BAD: [&str; 22] = [
     "",
     "help",
     "solve coin --help",
@@ -79,6 +79,8 @@ static BAD: [&str; 20] = [
     // Numbers out of their ranges.
     "check coin --cert c --penalty 0",
     "solve coin --cert c --states 65 --sweep-states 65",
+    "draw coin --cert c --into h --states 0",
+    "draw coin --cert c --into h --states 10001",
     "bench 1 4",
     "bench 1001 4",
     "bench 2 18446744073709551616",

@@ -30,7 +30,8 @@ pub(crate) fn run_behind<R: Threads + Sync, I: Source + Send, O: Sink + Send, G:
     gate: &G,
 ) -> Result<u8, AllocError> {
     let words: Vec<&str> = words.split_ascii_whitespace().collect(alloc)?;
-    Ok(run(rt, alloc, &words, shelf, source, out, gate))
+    let mut notes = MemorySink::make(alloc)?;
+    Ok(run(rt, alloc, &words, shelf, source, out, &mut notes, gate))
 }
 
 /// A source of these bytes, of which the take with this number fails.
@@ -99,6 +100,24 @@ pub(crate) fn run_words<R: Threads + Sync>(
         failing: (0, 0, 0),
     };
     run_on(rt, alloc, shelf, setting)
+}
+
+/// Runs words without input, and answers what is noted beside the output.
+pub(crate) fn run_noted<R: Threads + Sync>(
+    rt: &R,
+    alloc: Global,
+    shelf: &mut MemoryShelf,
+    words: &str,
+) -> Result<MemorySink, AllocError> {
+    let words: Vec<&str> = words.split_ascii_whitespace().collect(alloc)?;
+    let mut source = MemorySource::make(alloc)?;
+    let mut out = MemorySink::make(alloc)?;
+    let mut notes = MemorySink::make(alloc)?;
+    let (input, sink) = (&mut source, &mut out);
+    run(rt, alloc, &words, shelf, input, sink, &mut notes, &FreeGate);
+    drop(source);
+    drop(out);
+    Ok(notes)
 }
 
 /// Wants the status and the text of a row.

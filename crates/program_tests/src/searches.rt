@@ -156,7 +156,7 @@ fn tasks_are_solved(rt: HostRuntime) -> Result<(), Fail> {
 }
 
 /// Searches on a road of 201 places.
-static ROADS: [(&str, &str, u8, &str); 6] = [
+static ROADS: [(&str, &str, u8, &str); 7] = [
     // 64 of 201 places are swept.
     (
         "road --penalty 1000",
@@ -170,19 +170,26 @@ static ROADS: [(&str, &str, u8, &str); 6] = [
         1,
         "stopped budget\ninterval 64.000000 1000.000000\nstates 65\nrounds 100\nstart 1/1 64.000000 1000.000000 give-up : (at p0)\n",
     ),
-    // A trial goes to the end of the road, and its backups close all states on the way back.
+    // A trial that ends at the depth goes to the end of the road, and its backups close all states on the way back.
     (
         "road --penalty 1000",
-        "--sweep-states 64 --trials 4 --depth 250 --gap 0 --workers 1 --rounds 100",
+        "--sweep-states 64 --trials 4 --depth 250 --ends depth --gap 0 --workers 1 --rounds 100",
         0,
         "converged\ninterval 200.000000 200.000000\nstates 201\nrounds 1\nstart 1/1 200.000000 200.000000 (go p0 p1) : (at p0)\n",
     ),
     // And so do four workers at once, each by a trial of its own.
     (
         "road --penalty 1000",
-        "--sweep-states 64 --trials 4 --gap 0 --workers 4",
+        "--sweep-states 64 --trials 4 --ends depth --gap 0 --workers 4",
         0,
         "converged\ninterval 200.000000 200.000000\nstates 201\nrounds 1\nstart 1/1 200.000000 200.000000 (go p0 p1) : (at p0)\n",
+    ),
+    // Else a trial ends at the first new state, so that each round goes four states farther.
+    (
+        "road --penalty 1000",
+        "--sweep-states 64 --trials 4 --depth 250 --gap 0 --workers 1 --rounds 100",
+        0,
+        "converged\ninterval 200.000000 200.000000\nstates 201\nrounds 34\nstart 1/1 200.000000 200.000000 (go p0 p1) : (at p0)\n",
     ),
     // The table has room for one state more than the swept ones and one for its worker.
     (

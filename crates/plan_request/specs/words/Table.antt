@@ -113,8 +113,11 @@ merge_form = record { name = codes "merge"; options = codes "with" ∷ codes "in
 abbrev pub walk_form : Form
 walk_form = record { name = codes "walk"; options = codes "seed" ∷ codes "walks" ∷ codes "steps" ∷ check_options; words = codes "DOMAIN" ∷ [] }
 
+abbrev pub draw_form : Form
+draw_form = record { name = codes "draw"; options = codes "into" ∷ codes "states" ∷ check_options; words = codes "DOMAIN" ∷ [] }
+
 abbrev pub forms : List Form
-forms = solve_form ∷ check_form ∷ serve_form ∷ ground_form ∷ bench_form ∷ merge_form ∷ walk_form ∷ []
+forms = solve_form ∷ check_form ∷ serve_form ∷ ground_form ∷ bench_form ∷ merge_form ∷ walk_form ∷ draw_form ∷ []
 
 -- ---- the same as clap's command
 

@@ -6,7 +6,7 @@ ghost use Rattle.clap.specs.declared.builder.command.Command.TheViews.{out-Comma
 ghost use Rattle.plan_request.specs.words.Table.{forms as all_forms, plan_app, sub_shape};
 ghost use Rattle.plan_request.specs.words.Shown.{shown_form};
 
-use crate::words::forms::{Form, bench, check, ground, merge, serve, solve, walk};
+use crate::words::forms::{Form, bench, check, draw, ground, merge, serve, solve, walk};
 use clap::{Arg, ArgAction, Command};
 use std::alloc::{AllocError, Global};
 
@@ -43,5 +43,6 @@ pub(super) fn plan_command<'a>(alloc: Global) -> Result<Command<'a>, AllocError>
     let fourth = third.subcommand(sub_command(alloc, ground())?)?;
     let fifth = fourth.subcommand(sub_command(alloc, bench())?)?;
     let sixth = fifth.subcommand(sub_command(alloc, merge())?)?;
-    Ok(sixth.subcommand(sub_command(alloc, walk())?)?)
+    let seventh = sixth.subcommand(sub_command(alloc, walk())?)?;
+    Ok(seventh.subcommand(sub_command(alloc, draw())?)?)
 }

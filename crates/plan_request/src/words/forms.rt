@@ -4,7 +4,7 @@ ghost use Rattle.std.specs.Prelude.{◌≡◌, find, option_map};
 ghost use Rattle.std.specs.Str.{bytes_eq};
 ghost use Rattle.plan_request.specs.words.Table.{forms as all_forms, solve_form, check_form};
 ghost use Rattle.plan_request.specs.words.Table.{serve_form, ground_form, bench_form};
-ghost use Rattle.plan_request.specs.words.Table.{merge_form, walk_form};
+ghost use Rattle.plan_request.specs.words.Table.{merge_form, walk_form, draw_form};
 ghost use Rattle.plan_request.specs.words.Shown.{shown_form};
 
 /// A command: its name, its options, and the ids of its positional words.
@@ -68,6 +68,8 @@ static WALK_OPTIONS: [&str; 7] = [
     "penalty",
     "step-cost",
 ];
+
+static DRAW_OPTIONS: [&str; 6] = ["into", "states", "cert", "problem", "penalty", "step-cost"];
 
 static NO_OPTIONS: [&str; 0] = [];
 
@@ -152,6 +154,17 @@ pub(super) fn walk() -> Form
     }
 }
 
+/// The command `draw`.
+pub(super) fn draw() -> Form
+    ensures { shown_form result ≡ draw_form }
+{
+    Form {
+        name: "draw",
+        options: DRAW_OPTIONS.as_slice(),
+        words: DOMAIN.as_slice(),
+    }
+}
+
 /// The command with this name.
 pub(super) fn form_named(name: &str) -> Option<Form>
     ensures { option_map shown_form result ≡ find (λ f. bytes_eq f.name name.now) all_forms }
@@ -176,6 +189,9 @@ pub(super) fn form_named(name: &str) -> Option<Form>
     }
     if "walk" == name {
         return Some(walk());
+    }
+    if "draw" == name {
+        return Some(draw());
     }
     None
 }

@@ -64,7 +64,7 @@ fn may_stand(options: &[&str], seen: &[&str], name: &str) -> bool
 }
 
 /// The name is one of these.
-fn is_among(name: &str, names: &[&str]) -> bool
+pub(super) fn is_among(name: &str, names: &[&str]) -> bool
     ensures { result ≡ list_any (λ other. bytes_eq other.now name.now) names.now }
 {
     names.contains(&name)

@@ -1,7 +1,7 @@
 -- What `run` says of the words that it is lent, said of the words; and a shelf that is left alone is left as any request may leave it.
 use Rattle.std.proofs.Common.{inl, inr, rules}
 use Rattle.std.specs.Prelude.{◌≡◌, map, string_bytes, Some}
-use Rattle.plan_request.specs.Asked.{to_solve, to_serve, to_merge, request_of}
+use Rattle.plan_request.specs.Asked.{to_solve, to_serve, to_merge, to_draw, request_of}
 use Rattle.plan_app.proofs.Flow.{unchanged}
 use Rattle.ppddl_plan.proofs.run_with.Goals as goal
 
@@ -15,9 +15,12 @@ returns-in-Ok-clause-write_failed g c = λ four.
       | inr (inl (s, inr serves), rose) ↦
           let is : request_of (map string_bytes c.args.words.now) ≡ Some (to_serve s) = search (rules, serves, c.in-Ok.ensures, c.as_slice.ensures.value) in
           inr (inl (s, inr is), rose)
-      | inr (inr (m, merges), rose) ↦
+      | inr (inr (inl (m, merges)), rose) ↦
           let is : request_of (map string_bytes c.args.words.now) ≡ Some (to_merge m) = search (rules, merges, c.in-Ok.ensures, c.as_slice.ensures.value) in
-          inr (inr (m, is), rose)
+          inr (inr (inl (m, is)), rose)
+      | inr (inr (inr (d, draws)), rose) ↦
+          let is : request_of (map string_bytes c.args.words.now) ≡ Some (to_draw d) = search (rules, draws, c.in-Ok.ensures, c.as_slice.ensures.value) in
+          inr (inr (inr (d, is)), rose)
     ]
 
 pub returns-in-Err-clause-shelf : goal.returns-in-Err-clause-shelf

@@ -1,7 +1,7 @@
 -- A request that starts no server puts nothing but its ending.
 use Rattle.std.proofs.Common.{sym, subst, Some}
-use Rattle.plan_request.specs.Asked.{to_solve, to_check, to_ground, to_bench, to_merge, to_walk}
-use Rattle.plan_request.specs.Shown.{shown_sources, shown_solving, shown_merging, shown_walking, shown_request}
+use Rattle.plan_request.specs.Asked.{to_solve, to_check, to_ground, to_bench, to_merge, to_walk, to_draw}
+use Rattle.plan_request.specs.Shown.{shown_sources, shown_solving, shown_merging, shown_walking, shown_drawing, shown_request}
 use Rattle.policy_server.specs.Serving.{input}
 use Rattle.plan_app.specs.Putting.{PutsAnswers}
 use Rattle.plan_app.proofs.Flow.{measured, puts_nothing}
@@ -80,3 +80,15 @@ returns-in-Walk-clause-ends g c =
     (puts_nothing g.S.Shelf.held g.S.Shelf.read_faults g.S.Shelf.write_faults c.args.shelf.now c.walk.new.shelf
     (input g.I.Source.left g.I.Source.ends g.I.Source.faults c.args.source.now) (g.O.Sink.taken c.args.out.now)
     (to_walk (shown_walking c.in-Walk.walking)) c.walk.result c.walk.ensures.ends)
+
+pub returns-in-Draw-clause-ends : goal.returns-in-Draw-clause-ends
+returns-in-Draw-clause-ends g c =
+    subst
+    (λ r. PutsAnswers g.S.Shelf.held g.S.Shelf.read_faults g.S.Shelf.write_faults c.args.shelf.now c.draw.new.shelf
+    (input g.I.Source.left g.I.Source.ends g.I.Source.faults c.args.source.now)
+    (input g.I.Source.left g.I.Source.ends g.I.Source.faults c.args.source.now)
+    (g.O.Sink.taken c.args.out.now) (g.O.Sink.taken c.args.out.now) (Some (shown_request r)) c.draw.result)
+    (sym c.in-Draw.is)
+    (puts_nothing g.S.Shelf.held g.S.Shelf.read_faults g.S.Shelf.write_faults c.args.shelf.now c.draw.new.shelf
+    (input g.I.Source.left g.I.Source.ends g.I.Source.faults c.args.source.now) (g.O.Sink.taken c.args.out.now)
+    (to_draw (shown_drawing c.in-Draw.drawing)) c.draw.result c.draw.ensures.ends)

@@ -10,7 +10,7 @@ use Rattle.plan_app.specs.Asking.{asked_by, AsksToWrite}
 use Rattle.plan_app.specs.Endings.{MayEndAs}
 use Rattle.plan_app.specs.Putting.{PutsAnswers}
 use Rattle.plan_app.specs.Verdicts.{IsAnswerTo}
-use Rattle.plan_app.proofs.Asked.{asked_range, check_terms, ground_terms, solve_range, serve_range, merge_terms, walk_terms, judged_terms}
+use Rattle.plan_app.proofs.Asked.{asked_range, check_terms, ground_terms, solve_range, serve_range, merge_terms, walk_terms, draw_terms, judged_terms}
 use Rattle.plan_app.proofs.Exchanges.{rose_on}
 use Rattle.plan_app.proofs.Answering.{answer_with, write_rose}
 use Rattle.plan_app.proofs.Statuses.{
@@ -34,6 +34,7 @@ use Rattle.plan_app.proofs.Statuses.{
 }
 use Rattle.plan_app.proofs.Merged.{merged_exactly, unmerged_exactly, merge_put}
 use Rattle.plan_app.proofs.Walked.{walks_told}
+use Rattle.plan_app.proofs.Drawn.{draw_put}
 use Rattle.plan_app.proofs.Solved.{solution_put, service_put, measure_put, report_is_a_verdict}
 use Rattle.plan_app.proofs.program.run.Given.{Over}
 use Rattle.plan_app.proofs.program.run.Goals as goal
@@ -160,6 +161,16 @@ returns-clause-walks g c = λ w t f tells zero.
     c.stands_laws.ensures.process c.stands_laws.ensures.starts c.stands_laws.ensures.back
     c.task_certificate_laws.ensures.carried c.task_certificate_laws.ensures.names _ _ zero (put_at g c written)
 
+pub returns-clause-draws : goal.returns-clause-draws
+returns-clause-draws g c = λ d t f tells zero.
+    let written : c.put_ending.result ≢ WRITE_FAILED = λ four. omega (arith, zero, four) in
+    draw_put (ended_at g c written) c.source_laws.ensures.told c.source_laws.ensures.stops
+    c.text_laws.ensures.reads c.check_laws.ensures.accepted d t f tells
+    c.source_laws.ensures.stands (draw_terms c.request_laws.ensures c.args.words.now d tells.asks)
+    c.stands_laws.ensures.process c.stands_laws.ensures.starts c.stands_laws.ensures.back c.task_certificate_laws.ensures.carried
+    c.task_certificate_laws.ensures.names c.task_certificate_laws.ensures.encloses c.task_certificate_laws.ensures.ends
+    c.task_laws.ensures.well_formed _ _ zero (put_at g c written)
+
 pub returns-clause-solves : goal.returns-clause-solves
 returns-clause-solves g c = λ s t tells has.
     let written : c.put_ending.result ≢ WRITE_FAILED = (report_is_a_verdict c.put_ending.result has).no_write_fault in
@@ -204,7 +215,8 @@ not_written g c is =
         | inr rose ↦ inr (inl (asks.0, inr asks.1), rose)
       ]
       | inr (inl (s, asks), rose) ↦ inr (inl (s, inl asks), rose)
-      | inr (inr (m, asks), rose) ↦ inr (inr (m, asks), rose)
+      | inr (inr (inl (m, asks)), rose) ↦ inr (inr (inl (m, asks)), rose)
+      | inr (inr (inr (d, asks)), rose) ↦ inr (inr (inr (d, asks)), rose)
     ]
 
 -- 4 comes by a fault of the sink, or where a certificate was not written
@@ -250,3 +262,9 @@ returns-clause-answered g c = λ q asks lacks faults puts.
     (answer_with g.S.Shelf.held g.S.Shelf.read_faults g.S.Shelf.write_faults g.I.Source.left g.I.Source.ends g.I.Source.faults
     c.args.shelf.now c.report_of-ending.new.shelf c.args.source.now c.report_of-ending.new.source ends.answers c.source_laws.ensures.stops c.line_laws.ensures.grounded
     q ends.ending (asked_range c.request_laws.ensures c.args.words.now q asks) (request_ends ends q asks) lacks faults (subst (λ n. n ≢ WRITE_FAILED) ends.status_is written))
+
+pub returns-clause-reasons : goal.returns-clause-reasons
+returns-clause-reasons g c = c.put_ending.ensures.reasons
+
+pub returns-clause-no_reasons : goal.returns-clause-no_reasons
+returns-clause-no_reasons g c = c.put_ending.ensures.no_reasons

@@ -6,7 +6,7 @@ use Rattle.clap.specs.Walk.{answers_to, idle, subcommand_met}
 use Rattle.clap.specs.Simple.{App, built, label_of, names_of, subcommand_of}
 use Rattle.clap.specs.Takes.{takes}
 use Rattle.plan_request.specs.words.Words.{Text, Item, positionals_of, read}
-use Rattle.plan_request.specs.words.Table.{Form, IsTable, bench_form, built_sub, check_form, forms, ground_form, merge_form, plan_app, rows_from, serve_form, solve_form, walk_form}
+use Rattle.plan_request.specs.words.Table.{Form, IsTable, bench_form, built_sub, check_form, draw_form, forms, ground_form, merge_form, plan_app, rows_from, serve_form, solve_form, walk_form}
 use Rattle.plan_request.proofs.lemmas.words.Single.{and_both, same_text}
 use Rattle.plan_request.proofs.lemmas.words.Levels.{IsLeaf, above_entered, above_taken, level_rows, level_taken}
 use Rattle.plan_request.proofs.lemmas.words.Rules.{one_table, simple, two_table}
@@ -43,6 +43,9 @@ merge_known = record { table = one_table merge_form.options (codes "DOMAIN") ref
 walk_known : IsKnown walk_form
 walk_known = record { table = one_table walk_form.options (codes "DOMAIN") refl; leaf = record { no_default = refl; defaults_pass = refl; valid = λ rows. refl }; met = refl; helpless = refl; found = refl }
 
+draw_known : IsKnown draw_form
+draw_known = record { table = one_table draw_form.options (codes "DOMAIN") refl; leaf = record { no_default = refl; defaults_pass = refl; valid = λ rows. refl }; met = refl; helpless = refl; found = refl }
+
 find_step : (g : Form) (rest : List Form) (cmd : Text) (f : Form) → find (λ f. bytes_eq f.name cmd) (g ∷ rest) ≡ Some f
     → ((g ≡ f) × (g.name ≡ cmd)) ⊎ (find (λ f. bytes_eq f.name cmd) rest ≡ Some f)
 find_step g rest cmd f e =
@@ -56,21 +59,24 @@ known_as : (g f : Form) (cmd : Text) → IsKnown g → (g ≡ f) × (g.name ≡ 
 known_as g f cmd k p = (subst IsKnown p.0 k, sym (ap (λ (x : Form). x.name) p.0) ∙ p.1)
 
 pub known_of : (cmd : Text) (f : Form) → find (λ f. bytes_eq f.name cmd) forms ≡ Some f → IsKnown f × (f.name ≡ cmd)
-known_of cmd f e = elim (find_step solve_form (check_form ∷ serve_form ∷ ground_form ∷ bench_form ∷ merge_form ∷ walk_form ∷ []) cmd f e) [
+known_of cmd f e = elim (find_step solve_form (check_form ∷ serve_form ∷ ground_form ∷ bench_form ∷ merge_form ∷ walk_form ∷ draw_form ∷ []) cmd f e) [
   | inl p ↦ known_as solve_form f cmd solve_known p
-  | inr a ↦ elim (find_step check_form (serve_form ∷ ground_form ∷ bench_form ∷ merge_form ∷ walk_form ∷ []) cmd f a) [
+  | inr a ↦ elim (find_step check_form (serve_form ∷ ground_form ∷ bench_form ∷ merge_form ∷ walk_form ∷ draw_form ∷ []) cmd f a) [
     | inl p ↦ known_as check_form f cmd check_known p
-    | inr b ↦ elim (find_step serve_form (ground_form ∷ bench_form ∷ merge_form ∷ walk_form ∷ []) cmd f b) [
+    | inr b ↦ elim (find_step serve_form (ground_form ∷ bench_form ∷ merge_form ∷ walk_form ∷ draw_form ∷ []) cmd f b) [
       | inl p ↦ known_as serve_form f cmd serve_known p
-      | inr c ↦ elim (find_step ground_form (bench_form ∷ merge_form ∷ walk_form ∷ []) cmd f c) [
+      | inr c ↦ elim (find_step ground_form (bench_form ∷ merge_form ∷ walk_form ∷ draw_form ∷ []) cmd f c) [
         | inl p ↦ known_as ground_form f cmd ground_known p
-        | inr d ↦ elim (find_step bench_form (merge_form ∷ walk_form ∷ []) cmd f d) [
+        | inr d ↦ elim (find_step bench_form (merge_form ∷ walk_form ∷ draw_form ∷ []) cmd f d) [
           | inl p ↦ known_as bench_form f cmd bench_known p
-          | inr g ↦ elim (find_step merge_form (walk_form ∷ []) cmd f g) [
+          | inr g ↦ elim (find_step merge_form (walk_form ∷ draw_form ∷ []) cmd f g) [
             | inl p ↦ known_as merge_form f cmd merge_known p
-            | inr h ↦ elim (find_step walk_form [] cmd f h) [
+            | inr h ↦ elim (find_step walk_form (draw_form ∷ []) cmd f h) [
               | inl p ↦ known_as walk_form f cmd walk_known p
-              | inr none ↦ absurd (let x : None ≡ Some f = none in cc)
+              | inr i ↦ elim (find_step draw_form [] cmd f i) [
+                | inl p ↦ known_as draw_form f cmd draw_known p
+                | inr none ↦ absurd (let x : None ≡ Some f = none in cc)
+              ]
             ]
           ]
         ]

@@ -16,4 +16,5 @@ returns c =
     let fourth = c.in_ok-fourth.ensures.shape c.in_ok-sub_command-4.ensures.local ∙ ap₂ with_subcommand third (ap top c.in_ok-sub_command-4.ensures.shape ∙ ap sub_shape c.ground.ensures) in
     let fifth = c.in_ok-fifth.ensures.shape c.in_ok-sub_command-5.ensures.local ∙ ap₂ with_subcommand fourth (ap top c.in_ok-sub_command-5.ensures.shape ∙ ap sub_shape c.bench.ensures) in
     let sixth = c.in_ok-sixth.ensures.shape c.in_ok-sub_command-6.ensures.local ∙ ap₂ with_subcommand fifth (ap top c.in_ok-sub_command-6.ensures.shape ∙ ap sub_shape c.merge.ensures) in
-    c.in_ok-subcommand.ensures.shape c.in_ok-sub_command-7.ensures.local ∙ ap₂ with_subcommand sixth (ap top c.in_ok-sub_command-7.ensures.shape ∙ ap sub_shape c.walk.ensures)
+    let seventh = c.in_ok-seventh.ensures.shape c.in_ok-sub_command-7.ensures.local ∙ ap₂ with_subcommand sixth (ap top c.in_ok-sub_command-7.ensures.shape ∙ ap sub_shape c.walk.ensures) in
+    c.in_ok-subcommand.ensures.shape c.in_ok-sub_command-8.ensures.local ∙ ap₂ with_subcommand seventh (ap top c.in_ok-sub_command-8.ensures.shape ∙ ap sub_shape c.draw.ensures)
