@@ -1,12 +1,11 @@
 -- The stop of an ending whose status has a reason.
-use Rattle.std.proofs.Common.{◌≡◌, ◌≢◌, ◌⊎◌, ◌++◌, ℕ, List, Option, Some, None, Ok, Err, inl, inr, refl, sym, ap, ◌∙◌, Bool, false, true≢false, IsTrue, Result, arith, subst}
+use Rattle.std.proofs.Common.{◌≡◌, ◌≢◌, ℕ, List, Option, Some, Ok, Err, inl, inr, refl, sym, ap, ◌∙◌, Bool, false, true≢false, IsTrue, Result, arith, subst}
 use Rattle.std.specs.Prelude.{OnOk, OnErr}
 use Rattle.shelf_io.specs.Causes.{Rose, HasCause, one_more}
 use Rattle.shelf_io.specs.Streams.{PutsPrefix}
 use Rattle.std.specs.Io.KnownBytes.{Appends}
 use Rattle.plan_request.specs.stop.Stop.{Ending, ending_status, ending_text, status_of, line_of}
 use Rattle.plan_request.specs.declared.stop.Stop.{Stop}
-use Rattle.plan_request.specs.declared.stop.Stop.TheVariants.{NoMemory}
 use Rattle.plan_request.specs.declared.stop.report.Report.TheVariants.{Done, GapLeft}
 use Rattle.plan_request.specs.declared.stop.status.TheConstants.{WRITE_FAILED}
 use Rattle.plan_app.specs.Putting.{IsSaid, SaysPut}

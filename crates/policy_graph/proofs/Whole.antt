@@ -11,7 +11,6 @@ use Rattle.plain_list.proofs.Members.{Contains-nil, Contains-first, Contains-lat
 use Rattle.certificate.specs.Content.{Content}
 use Rattle.certificate_check.specs.Laws.{act_in}
 use Rattle.decision_process.specs.Process.{Outcome, Start}
-use Rattle.ground_model.specs.declared.action.Choice.{Choice}
 use Rattle.ground_model.specs.declared.action.GroundAction.{GroundAction}
 use Rattle.ground_model.specs.Packed.{State, same_state}
 use Rattle.ground_model.specs.Ground.{Ground}

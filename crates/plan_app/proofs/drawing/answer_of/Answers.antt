@@ -1,5 +1,5 @@
 -- A graph has few nodes.
-use Rattle.std.proofs.Common.{◌≡◌, ◌≤◌, length, arith}
+use Rattle.std.proofs.Common.{length, arith}
 use Rattle.std.proofs.lemmas.List.{length-map}
 use Rattle.policy_graph.specs.declared.node.Node.{Node}
 use Rattle.plan_app.proofs.drawing.answer_of.Goals as goal

@@ -1,5 +1,5 @@
 -- The reason is that of the stop whose line was put.
-use Rattle.std.proofs.Common.{◌≡◌, sym, ◌∙◌}
+use Rattle.std.proofs.Common.{◌∙◌}
 use Rattle.plan_app.proofs.Noted.{has_stop, put_whole_at}
 use Rattle.plan_app.proofs.program.put_ending.Goals as goal
 

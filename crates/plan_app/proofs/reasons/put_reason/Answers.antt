@@ -1,4 +1,4 @@
-use Rattle.std.proofs.Common.{◌≡◌, sym, ◌∙◌, false, rules, Some}
+use Rattle.std.proofs.Common.{◌≡◌, false, rules}
 use Rattle.plan_app.specs.Reasons.{has_reason}
 use Rattle.plan_app.proofs.Noted.{has_none}
 use Rattle.plan_app.proofs.reasons.put_reason.Goals as goal
