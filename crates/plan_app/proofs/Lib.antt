@@ -12,6 +12,7 @@ pub mod States
 pub mod Replies
 pub mod Below
 pub mod Solved
+pub mod Progress
 pub mod Merged
 pub mod Numbered
 pub mod Noted

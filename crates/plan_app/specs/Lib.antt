@@ -13,5 +13,6 @@ pub mod Walks
 pub mod Drawn
 pub mod Putting
 pub mod Reasons
+pub mod Progress
 pub mod Examples
 pub mod certificates

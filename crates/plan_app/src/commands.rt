@@ -1,6 +1,6 @@
 //! The commands, from a request to its report or to what stops it.
 
-ghost use Rattle.std.specs.Prelude.{◌≡◌, ◌⊎◌, Some, Err};
+ghost use Rattle.std.specs.Prelude.{◌≡◌, ◌⊎◌, Some, Err, IfOk};
 ghost use Rattle.shelf_io.specs.Causes.{Rose};
 ghost use Rattle.policy_server.specs.Serving.{input};
 ghost use Rattle.plan_request.specs.Asked.{to_ground};
@@ -12,11 +12,13 @@ ghost use Rattle.plan_app.specs.Asking.{asked_by, IsToServe};
 ghost use Rattle.plan_app.specs.Endings.{MayEndRequest, CallsFor, CallsForWords};
 ghost use Rattle.plan_app.specs.Endings.{Leaves, LeavesForWords};
 ghost use Rattle.plan_app.specs.Putting.{PutsAnswers, CountsOn};
+ghost use Rattle.plan_app.specs.Progress.{rounds_asked, rounds_in, TellsAsked, AreToldOf};
 
 use crate::benching::bench;
 use crate::drawing::draw;
 use crate::judging::check;
 use crate::merging::merge;
+use crate::progress_lines::ProgressLines;
 use crate::serving::serve;
 use crate::solving::solve;
 use crate::walking::walk;
@@ -28,13 +30,14 @@ use std::alloc::Global;
 use std::thread::Threads;
 
 /// The report that these words ask for, or what stops the run. Under `serve` queries are answered before.
-pub(crate) fn report_of<R: Threads + Sync, S: Shelf, I: Source, O: Sink, G: Gate>(
+pub(crate) fn report_of<R: Threads + Sync, S: Shelf, I: Source, O: Sink, P: Sink + Send, G: Gate>(
     rt: &R,
     alloc: Global,
     words: &[&str],
     shelf: &mut S,
     source: &mut I,
     out: &mut O,
+    progress: &mut ProgressLines<P>,
     gate: &G,
 ) -> Result<Report, Stop>
     ensures ends { let from = input I.left I.ends I.faults source.old
@@ -50,23 +53,27 @@ pub(crate) fn report_of<R: Threads + Sync, S: Shelf, I: Source, O: Sink, G: Gate
     ensures calls { CallsForWords S.held S.calls shelf.old shelf.new (asked_by words.now) }
     ensures shelf { LeavesForWords S.held S.read_faults S.write_faults shelf.old shelf.new
         (asked_by words.now) }
+    ensures tells { TellsAsked P.taken P.faults (rounds_in (asked_by words.now))
+        progress.old progress.new
+        (λ s rs. IfOk result (λ _. AreToldOf S.held shelf.old shelf.new s rs)) }
 {
     request_laws();
     match request_of(alloc, words) {
         Ok(None) => Err(Stop::BadWords),
-        Ok(Some(request)) => answer(rt, alloc, &request, shelf, source, out, gate),
+        Ok(Some(request)) => answer(rt, alloc, &request, shelf, source, out, progress, gate),
         Err(_) => Err(Stop::NoMemory),
     }
 }
 
 /// The report of a request, or what stops it. Under `serve` queries are answered before.
-fn answer<R: Threads + Sync, S: Shelf, I: Source, O: Sink, G: Gate>(
+fn answer<R: Threads + Sync, S: Shelf, I: Source, O: Sink, P: Sink + Send, G: Gate>(
     rt: &R,
     alloc: Global,
     request: &Request<'_>,
     shelf: &mut S,
     source: &mut I,
     out: &mut O,
+    progress: &mut ProgressLines<P>,
     gate: &G,
 ) -> Result<Report, Stop>
     requires { IsInRange (shown_request request.now) }
@@ -83,14 +90,17 @@ fn answer<R: Threads + Sync, S: Shelf, I: Source, O: Sink, G: Gate>(
     ensures calls { CallsFor S.held S.calls shelf.old shelf.new (shown_request request.now) }
     ensures shelf { Leaves S.held S.read_faults S.write_faults shelf.old shelf.new
         (shown_request request.now) }
+    ensures tells { TellsAsked P.taken P.faults (rounds_asked (shown_request request.now))
+        progress.old progress.new
+        (λ s rs. IfOk result (λ _. AreToldOf S.held shelf.old shelf.new s rs)) }
 {
     match request {
-        Request::Solve(solving) => solve(rt, alloc, solving, shelf, gate),
+        Request::Solve(solving) => solve(rt, alloc, solving, shelf, progress, gate),
         Request::Check {
             sources,
             certificate,
         } => check(alloc, sources, certificate, shelf),
-        Request::Serve(solving) => serve(rt, alloc, solving, shelf, source, out, gate),
+        Request::Serve(solving) => serve(rt, alloc, solving, shelf, source, out, progress, gate),
         Request::Ground(sources) => ground(alloc, sources, shelf),
         Request::Bench { places, seed } => bench(rt, alloc, *places, *seed, gate),
         Request::Merge(merging) => merge(alloc, merging, shelf),

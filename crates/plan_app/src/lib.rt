@@ -10,6 +10,7 @@ mod judging;
 mod merging;
 mod pair;
 mod program;
+mod progress_lines;
 mod reasons;
 mod serving;
 mod solving;
@@ -17,3 +18,4 @@ mod walking;
 
 pub use certificates::task_certificate_laws;
 pub use program::run;
+pub use progress_lines::ProgressLines;

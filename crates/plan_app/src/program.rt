@@ -27,9 +27,11 @@ ghost use Rattle.plan_app.specs.Walks.{PutsWalks};
 ghost use Rattle.plan_app.specs.Drawn.{PutsDrawn};
 ghost use Rattle.plan_app.specs.Putting.{PutsPart, SaysPut, SaysCutShort};
 ghost use Rattle.plan_app.specs.Reasons.{HasReason, PutsReason};
+ghost use Rattle.plan_app.specs.Progress.{AsksToTell, TellsRounds, AreRoundsOn};
 
 use crate::certificates::task_certificate_laws;
 use crate::commands::report_of;
+use crate::progress_lines::ProgressLines;
 use crate::reasons::{put_reason, stop_in};
 use bench_line::line_laws;
 use cert_merge::merged_laws;
@@ -49,7 +51,15 @@ use std::thread::Threads;
 ///
 /// `check`, `walk`, `ground` and `bench` change nothing on the shelf; `solve`, `serve`, `merge` and `draw` change
 /// the name of the text that they write alone. Under `serve` alone something is taken from the source.
-pub fn run<R: Threads + Sync, S: Shelf, I: Source + Send, O: Sink + Send, N: Sink + Send, G: Gate>(
+pub fn run<
+    R: Threads + Sync,
+    S: Shelf,
+    I: Source + Send,
+    O: Sink + Send,
+    N: Sink + Send,
+    P: Sink + Send,
+    G: Gate,
+>(
     rt: &R,
     alloc: Global,
     words: &[&str],
@@ -57,6 +67,7 @@ pub fn run<R: Threads + Sync, S: Shelf, I: Source + Send, O: Sink + Send, N: Sin
     source: &mut I,
     out: &mut O,
     notes: &mut N,
+    progress: &mut ProgressLines<P>,
     gate: &G,
 ) -> u8
     // How a run ends: the answers of a server and the whole text of the ending are put, or after 4 at most
@@ -183,6 +194,16 @@ pub fn run<R: Threads + Sync, S: Shelf, I: Source + Send, O: Sink + Send, N: Sin
     ensures reasons { HasReason result → PutsReason words.now result (O.taken out.new)
         (N.faults notes.old) (N.faults notes.new) (N.taken notes.old) (N.taken notes.new) }
     ensures no_reasons { ¬ HasReason result → notes.new ≡ notes.old }
+
+    // Where a search is asked to tell of its rounds, a line is put of each reading, until a put fails: each is of a
+    // later round than the one before, and its interval lies within that one's. Where the search ended with a report,
+    // each interval encloses that of the certificate, and is no wider than plain rounded iteration makes it in as
+    // many rounds. Nothing is put there but these lines.
+    ensures tells { (s : Solving) → AsksToTell words.now s
+        → TellsRounds P.taken P.faults progress.old progress.new
+        (AreRoundsOn (S.held shelf.old) (S.held shelf.new) result s) }
+    ensures quiet { ¬ ((s : Solving) × AsksToTell words.now s)
+        → progress.new.sink ≡ progress.old.sink }
 {
     // The laws on which the clauses rest.
     request_laws();
@@ -198,7 +219,7 @@ pub fn run<R: Threads + Sync, S: Shelf, I: Source + Send, O: Sink + Send, N: Sin
     same_level_laws();
     task_certificate_laws();
     task_progress_laws();
-    let ending = report_of(rt, alloc, words, shelf, source, out, gate);
+    let ending = report_of(rt, alloc, words, shelf, source, out, progress, gate);
     put_ending(alloc, words, out, notes, ending)
 }
 

@@ -1,6 +1,6 @@
 //! `serve`.
 
-ghost use Rattle.std.specs.Prelude.{◌≡◌, ◌⊎◌, Some, Err};
+ghost use Rattle.std.specs.Prelude.{◌≡◌, ◌⊎◌, Some, Err, IfOk};
 ghost use Rattle.shelf_io.specs.Causes.{Rose};
 ghost use Rattle.policy_server.specs.Serving.{input};
 ghost use Rattle.plan_request.specs.Asked.{to_serve};
@@ -9,7 +9,9 @@ ghost use Rattle.plan_request.specs.Shown.{shown_solving};
 ghost use Rattle.plan_request.specs.declared.stop.Stop.TheVariants.{WriteFailed};
 ghost use Rattle.plan_app.specs.Endings.{CallsFor, Leaves};
 ghost use Rattle.plan_app.specs.Putting.{PutsAnswers, CountsOn};
+ghost use Rattle.plan_app.specs.Progress.{rounds_asked, TellsAsked, AreToldOf};
 
+use crate::progress_lines::ProgressLines;
 use crate::solving::write;
 use plan_request::{Report, Solving, Stop};
 use plan_sources::{problem_of, source_laws};
@@ -20,13 +22,14 @@ use std::thread::Threads;
 /// The report of the search for a certificate of the texts, beside which queries from the source are answered on the
 /// sink. When both have ended the certificate is written, once and whole; where the source or the sink failed there
 /// is none.
-pub(crate) fn serve<R: Threads + Sync, S: Shelf, I: Source, O: Sink, G: Gate>(
+pub(crate) fn serve<R: Threads + Sync, S: Shelf, I: Source, O: Sink, P: Sink + Send, G: Gate>(
     rt: &R,
     alloc: Global,
     solving: &Solving<'_>,
     shelf: &mut S,
     source: &mut I,
     out: &mut O,
+    progress: &mut ProgressLines<P>,
     gate: &G,
 ) -> Result<Report, Stop>
     requires { IsSolving (shown_solving solving.now) }
@@ -41,15 +44,20 @@ pub(crate) fn serve<R: Threads + Sync, S: Shelf, I: Source, O: Sink, G: Gate>(
         (to_serve (shown_solving solving.now)) }
     ensures shelf { Leaves S.held S.read_faults S.write_faults shelf.old shelf.new
         (to_serve (shown_solving solving.now)) }
+    ensures tells { TellsAsked P.taken P.faults (rounds_asked (to_serve (shown_solving solving.now)))
+        progress.old progress.new
+        (λ s rs. IfOk result (λ _. AreToldOf S.held shelf.old shelf.new s rs)) }
 {
     source_laws();
     let problem = problem_of(alloc, &solving.sources, shelf)?;
+    progress.live = solving.progress;
     let answer = plan_search::serve(
         rt,
         alloc,
         &problem,
         &solving.effort,
         &solving.sizes,
+        progress,
         source,
         out,
         gate,

@@ -8,21 +8,25 @@ ghost use Rattle.plan_request.specs.Laws.{IsSolving};
 ghost use Rattle.plan_request.specs.Shown.{shown_solving};
 ghost use Rattle.plan_request.specs.declared.stop.Stop.TheVariants.{NoMemory, WriteFailed};
 ghost use Rattle.plan_app.specs.Endings.{MayEndRequest, CallsFor, Leaves, said_by};
+ghost use Rattle.plan_app.specs.Progress.{rounds_asked, TellsAsked, AreToldOf};
 
+use crate::progress_lines::ProgressLines;
 use plain_list::Bytes;
 use plan_request::{Report, Solving, Stop};
 use plan_search::Answer;
 use plan_sources::{problem_of, source_laws};
-use shelf_io::{Gate, Shelf, WriteFault};
+use shelf_io::{Gate, Shelf, Sink, WriteFault};
 use std::alloc::Global;
 use std::thread::Threads;
 
-/// The report of the search for a certificate of the texts. The certificate is written first, once and whole.
-pub(crate) fn solve<R: Threads + Sync, S: Shelf, G: Gate>(
+/// The report of the search for a certificate of the texts. The certificate is written first, once and whole. Lines of
+/// the rounds are put while they are made, where they are asked for.
+pub(crate) fn solve<R: Threads + Sync, S: Shelf, P: Sink, G: Gate>(
     rt: &R,
     alloc: Global,
     solving: &Solving<'_>,
     shelf: &mut S,
+    progress: &mut ProgressLines<P>,
     gate: &G,
 ) -> Result<Report, Stop>
     requires { IsSolving (shown_solving solving.now) }
@@ -32,9 +36,13 @@ pub(crate) fn solve<R: Threads + Sync, S: Shelf, G: Gate>(
         (to_solve (shown_solving solving.now)) }
     ensures shelf { Leaves S.held S.read_faults S.write_faults shelf.old shelf.new
         (to_solve (shown_solving solving.now)) }
+    ensures tells { TellsAsked P.taken P.faults (rounds_asked (to_solve (shown_solving solving.now)))
+        progress.old progress.new
+        (λ s rs. IfOk result (λ _. AreToldOf S.held shelf.old shelf.new s rs)) }
 {
     source_laws();
     let problem = problem_of(alloc, &solving.sources, shelf)?;
+    progress.live = solving.progress;
     let answer = plan_search::solve(
         rt,
         alloc,
@@ -42,6 +50,7 @@ pub(crate) fn solve<R: Threads + Sync, S: Shelf, G: Gate>(
         &solving.effort,
         &solving.sizes,
         solving.lower,
+        progress,
         gate,
     )?;
     write(alloc, solving.certificate, answer, shelf)

@@ -86,9 +86,9 @@ module _ (g h : Given) where
   unfolding sizes_of
   sizes_same a b c = rw (a, b, c) refl
 
-  solving_same : (lower : Lower) → sources_of g ≡ sources_of h → g (codes "cert") ≡ h (codes "cert") → effort_of g ≡ effort_of h → sizes_of g ≡ sizes_of h → solving_of lower g ≡ solving_of lower h
+  solving_same : (lower : Lower) → sources_of g ≡ sources_of h → g (codes "cert") ≡ h (codes "cert") → effort_of g ≡ effort_of h → sizes_of g ≡ sizes_of h → g (codes "progress") ≡ h (codes "progress") → solving_of lower g ≡ solving_of lower h
   unfolding solving_of
-  solving_same lower a b c d = rw (a, b, c, d) refl
+  solving_same lower a b c d e = rw (a, b, c, d, e) refl
 
   solved_same : g (codes "lower") ≡ h (codes "lower") → ((lower : Lower) → solving_of lower g ≡ solving_of lower h) → solved_of g ≡ solved_of h
   unfolding solved_of
@@ -134,6 +134,7 @@ module _ (name : Text) (items : List Item) (p : Parsed) where
       (effort_same g h (v.options (codes "gap") refl) (v.options (codes "rounds") refl) (v.options (codes "trials") refl) (v.options (codes "depth") refl)
       (v.options (codes "tau") refl) (v.options (codes "seed") refl) (v.options (codes "ends") refl))
       (sizes_same g h (v.options (codes "workers") refl) (v.options (codes "states") refl) (v.options (codes "sweep-states") refl))
+      (v.options (codes "progress") refl)
 
 -- what is found under more options is found under fewer
 or_right : (a b : Bool) → b ≡ true → (a || b) ≡ true

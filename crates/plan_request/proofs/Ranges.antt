@@ -13,7 +13,7 @@ use Rattle.plan_request.specs.declared.lower.Lower.{Lower}
 use Rattle.plan_request.specs.declared.lower.Lower.TheVariants as lowers
 use Rattle.plan_request.specs.declared.command.Command.{Command}
 use Rattle.plan_request.specs.declared.command.Command.TheVariants.{Solve, Check, Serve, Ground, Bench, Merge, Walk, Draw}
-use Rattle.plan_request.specs.Asked.{Given, Asked, to_serve, to_ground, to_merge, to_walk, to_draw, given_in, lower_of, ends_of}
+use Rattle.plan_request.specs.Asked.{Given, Asked, to_serve, to_ground, to_merge, to_walk, to_draw, given_in, lower_of, ends_of, progress_of}
 use Rattle.plan_request.specs.Asked.{penalty_of, sources_of, effort_of, sizes_of, solving_of, merging_of, walking_of, drawing_of, solved_of, checked_of, benched_of, asked_as, asked_by, request_of}
 use Rattle.plan_request.specs.Laws.{IsBetween, AreTerms, IsEffort, AreSizes, IsSolving, IsMerging, IsWalking, IsDrawing, IsInRange}
 use Rattle.plan_request.proofs.Options.{of_some, if_then_some, if_mapped, if_bound, if_any}
@@ -111,7 +111,8 @@ solving_in lower given =
     (λ sources a. if_bound _ IsSolving (given (codes "cert")) _ (if_any _)
     (λ certificate _. if_bound IsEffort IsSolving (effort_of given) _ (effort_in given)
     (λ effort b. if_bound AreSizes IsSolving (sizes_of given) _ (sizes_in given)
-    (λ sizes c. record { terms = a; effort = b; sizes = c }))))
+    (λ sizes c. if_bound _ IsSolving (progress_of (given (codes "progress"))) _ (if_any _)
+    (λ progress _. record { terms = a; effort = b; sizes = c })))))
 
 merging_in : (given : Given) → IfSome (merging_of given) IsMerging
 unfolding merging_of

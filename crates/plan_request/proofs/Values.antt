@@ -30,7 +30,7 @@ fault_same f g h options words = ap (λ o. unwrap_or o swept) (ap₂ or_else (fi
 values_found : (c : Command) (items : List Item) (p : Parsed) → HasValues (form_of c) items p → fault_in (form_of c) (given_by p) ≡ fault_in (form_of c) (given_in (form_of c) items)
 values_found Solve items p v =
     fault_same solve_form (given_by p) (given_in solve_form items)
-    (v.options (codes "lower") refl also v.options (codes "cert") refl also v.options (codes "problem") refl also v.options (codes "penalty") refl also v.options (codes "step-cost") refl also v.options (codes "gap") refl also v.options (codes "rounds") refl also v.options (codes "trials") refl also v.options (codes "depth") refl also v.options (codes "tau") refl also v.options (codes "workers") refl also v.options (codes "states") refl also v.options (codes "sweep-states") refl also v.options (codes "seed") refl also v.options (codes "ends") refl also no_more)
+    (v.options (codes "lower") refl also v.options (codes "cert") refl also v.options (codes "problem") refl also v.options (codes "penalty") refl also v.options (codes "step-cost") refl also v.options (codes "gap") refl also v.options (codes "rounds") refl also v.options (codes "trials") refl also v.options (codes "depth") refl also v.options (codes "tau") refl also v.options (codes "workers") refl also v.options (codes "states") refl also v.options (codes "sweep-states") refl also v.options (codes "seed") refl also v.options (codes "ends") refl also v.options (codes "progress") refl also no_more)
     (v.words 0 (lit< tt) also no_more)
 values_found Check items p v =
     fault_same check_form (given_by p) (given_in check_form items)
@@ -38,7 +38,7 @@ values_found Check items p v =
     (v.words 0 (lit< tt) also no_more)
 values_found Serve items p v =
     fault_same serve_form (given_by p) (given_in serve_form items)
-    (v.options (codes "cert") refl also v.options (codes "problem") refl also v.options (codes "penalty") refl also v.options (codes "step-cost") refl also v.options (codes "gap") refl also v.options (codes "rounds") refl also v.options (codes "trials") refl also v.options (codes "depth") refl also v.options (codes "tau") refl also v.options (codes "workers") refl also v.options (codes "states") refl also v.options (codes "sweep-states") refl also v.options (codes "seed") refl also v.options (codes "ends") refl also no_more)
+    (v.options (codes "cert") refl also v.options (codes "problem") refl also v.options (codes "penalty") refl also v.options (codes "step-cost") refl also v.options (codes "gap") refl also v.options (codes "rounds") refl also v.options (codes "trials") refl also v.options (codes "depth") refl also v.options (codes "tau") refl also v.options (codes "workers") refl also v.options (codes "states") refl also v.options (codes "sweep-states") refl also v.options (codes "seed") refl also v.options (codes "ends") refl also v.options (codes "progress") refl also no_more)
     (v.words 0 (lit< tt) also no_more)
 values_found Ground items p v =
     fault_same ground_form (given_by p) (given_in ground_form items)

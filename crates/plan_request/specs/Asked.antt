@@ -5,8 +5,11 @@
 --                                  what is told of the cost from below where this is given; nothing where nothing is
 --     ends_named name, ends_of text
 --                                  where trials end under this name; at the first new state where none is given
+--     progress_named name, progress_of text
+--                                  whether the rounds of a search are told where this is given; not where nothing is
 --     Solving, solving_of lower given
---                                  a task to solve, the name of its certificate, the search, and what it tells from below
+--                                  a task to solve, the name of its certificate, the search, and what it tells from
+--                                  below and while it goes on
 --     Merging, merging_of given    two certificates of a task to merge, and the name under which what comes of them goes
 --     Walking, walking_of given    walks to make under the policy of a certificate
 --     Drawing, drawing_of given    the graph of a certificate's policy to draw, and the name under which its text goes
@@ -16,8 +19,10 @@
 --     asked_as command given       what a command asks for
 --     given_in f items             what stands under a name in words in form
 --     request_of words             the request of the words behind the program's name, if they have one
+--     spelled_word w               a word as it is read: `--progress` is its option with its one value
+--     request_as_read words        the request of words as they are read
 -- Amounts are in micro-units, a millionth of a unit.
-use Rattle.std.specs.Prelude.{ℕ, ◌-◌, ◌^◌, min, if◌then◌else◌, List, Option, Some, None, option_map, position, slice_get, codes}
+use Rattle.std.specs.Prelude.{ℕ, ◌-◌, ◌^◌, min, if◌then◌else◌, Bool, true, false, List, map, Option, Some, None, option_map, position, slice_get, codes}
 use Rattle.std.specs.Str.{bytes_eq}
 use Rattle.plan_request.specs.words.Words.{Text, Item, positionals_of, value_of}
 use Rattle.plan_request.specs.words.Table.{Form}
@@ -100,12 +105,19 @@ lower_named name =
 abbrev pub lower_of : Option Text → Option Lower
 lower_of = unless_given lowers.None lower_named
 
+unfoldable pub progress_named : Text → Option Bool
+progress_named name = if bytes_eq (codes "lines") name then Some true else None
+
+abbrev pub progress_of : Option Text → Option Bool
+progress_of = unless_given false progress_named
+
 pub record Solving : Type 0 where
   pub sources : Sources
   pub certificate : Text
   pub effort : Effort
   pub sizes : Sizes
   pub lower : Lower
+  pub progress : Bool
 
 unfoldable pub solving_of : Lower → Given → Option Solving
 solving_of lower given = do
@@ -113,7 +125,15 @@ solving_of lower given = do
   certificate ← given (codes "cert")
   effort ← effort_of given
   sizes ← sizes_of given
-  Some (record { sources = sources; certificate = certificate; effort = effort; sizes = sizes; lower = lower })
+  progress ← progress_of (given (codes "progress"))
+  Some (record {
+    sources = sources;
+    certificate = certificate;
+    effort = effort;
+    sizes = sizes;
+    lower = lower;
+    progress = progress;
+  })
 
 pub record Merging : Type 0 where
   pub sources : Sources
@@ -212,3 +232,9 @@ given_in f items name = given_at items name (position (λ n. bytes_eq n name) f.
 
 unfoldable pub request_of : List Text → Option Asked
 request_of words = formed words >>= λ (f, items). asked_by f.name (given_in f items)
+
+unfoldable pub spelled_word : Text → Text
+spelled_word w = if bytes_eq (codes "--progress") w then codes "--progress=lines" else w
+
+abbrev pub request_as_read : List Text → Option Asked
+request_as_read words = request_of (map spelled_word words)

@@ -1,9 +1,9 @@
 -- Worked examples, which compute.
-use Rattle.std.specs.Prelude.{◌≡◌, ◌^◌, [], ◌∷◌, Some, None, codes}
+use Rattle.std.specs.Prelude.{◌≡◌, true, ◌^◌, [], ◌∷◌, Some, None, codes}
 use Rattle.std.proofs.Common.{refl}
 use Rattle.plan_request.specs.Numbers.{whole, amount}
 use Rattle.plan_request.specs.Commands.{command_named}
-use Rattle.plan_request.specs.Asked.{penalty_of, sources_of, effort_of, sizes_of, ends_named, lower_named, solving_of, merging_of, walking_of, drawing_of, solved_of, checked_of, benched_of, request_of}
+use Rattle.plan_request.specs.Asked.{penalty_of, sources_of, effort_of, sizes_of, ends_named, lower_named, solving_of, merging_of, walking_of, drawing_of, progress_named, solved_of, checked_of, benched_of, request_of, spelled_word}
 use Rattle.plan_request.specs.declared.ends.Ends.TheVariants as to
 use Rattle.plan_request.specs.Asked.{to_check, to_bench, to_merge, to_walk, to_draw}
 
@@ -99,3 +99,17 @@ draw-coin = refl
 draw-nothing : request_of (codes "draw" ∷ codes "coin" ∷ codes "--cert" ∷ codes "c" ∷ codes "--into" ∷ codes "g" ∷ codes "--states" ∷ codes "0" ∷ []) ≡ None
 unfolding request_of command_named drawing_of sources_of penalty_of whole amount
 draw-nothing = refl
+
+-- the rounds are told as lines, or not at all
+tell-lines : progress_named (codes "lines") ≡ Some true
+unfolding progress_named
+tell-lines = refl
+
+tell-more : progress_named (codes "more") ≡ None
+unfolding progress_named
+tell-more = refl
+
+-- it stands without its value too
+read-progress : spelled_word (codes "--progress") ≡ codes "--progress=lines"
+unfolding spelled_word
+read-progress = refl

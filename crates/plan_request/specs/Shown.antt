@@ -31,6 +31,7 @@ shown_solving s = record {
   effort = s.effort;
   sizes = s.sizes;
   lower = s.lower;
+  progress = s.progress;
 }
 
 abbrev pub shown_merging : Merging → asked.Merging

@@ -10,11 +10,13 @@ mod laws;
 mod lower;
 mod merging;
 mod numbers;
+mod progress;
 mod reasons;
 mod request;
 mod sizes;
 mod solving;
 mod sources;
+mod spelling;
 mod stop;
 mod walking;
 mod words;
@@ -30,6 +32,7 @@ pub use request::{Request, request_of};
 pub use sizes::Sizes;
 pub use solving::Solving;
 pub use sources::Sources;
+pub use spelling::spelled_word;
 pub use stop::{
     BAD_WORDS, DONE, GAP_LEFT, LIMIT, NO_MEMORY, NOT_ACCEPTED, READ_FAILED, REFUSED, Report, Stop,
     WRITE_FAILED,

@@ -104,6 +104,7 @@ fn kind_words(alloc: Global, kind: ValueKind) -> Result<String, AllocError>
         }
         ValueKind::Ends => format!(in alloc; "depth or new"),
         ValueKind::Lower => format!(in alloc; "none, cost or relaxed"),
+        ValueKind::Progress => format!(in alloc; "lines, or nothing"),
     }
 }
 

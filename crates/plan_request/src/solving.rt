@@ -6,6 +6,7 @@ ghost use Rattle.plan_request.specs.Shown.{shown_solving, given_by};
 
 use crate::effort::{Effort, effort_of};
 use crate::lower::Lower;
+use crate::progress::progress_of;
 use crate::sizes::{Sizes, sizes_of};
 use crate::sources::{Sources, sources_of};
 use crate::words::Parsed;
@@ -23,6 +24,8 @@ pub struct Solving<'a> {
     pub sizes: Sizes,
     /// What is told of the cost from below; nothing under `serve`.
     pub lower: Lower,
+    /// Whether a line tells of each round.
+    pub progress: bool,
 }
 
 /// What the words of a command that solves ask for, where this is told of the cost from below.
@@ -34,11 +37,13 @@ pub(crate) fn solving_of<'a>(parsed: &Parsed<'a>, lower: Lower) -> Option<Solvin
     let certificate = parsed.value("cert")?;
     let effort = effort_of(parsed)?;
     let sizes = sizes_of(parsed)?;
+    let progress = progress_of(parsed)?;
     Some(Solving {
         sources,
         certificate,
         effort,
         sizes,
         lower,
+        progress,
     })
 }

@@ -1,5 +1,5 @@
 -- Replies by what was found.
-use Rattle.std.proofs.Common.{◌≡◌, ◌↔◌, ◌⊎◌, ℕ, ◌+◌, ◌≤◌, ◌<◌, Bool, refl, sym, subst, inl, inr, length, List}
+use Rattle.std.proofs.Common.{◌≡◌, ◌↔◌, ◌⊎◌, ℕ, ◌+◌, ◌≤◌, ◌<◌, Bool, refl, sym, ap, subst, inl, inr, length, List}
 use Rattle.std.specs.Prelude.{IsTrue, Ok, Err}
 use Rattle.plain_list.specs.declared.Bytes.{Bytes}
 use Rattle.ground_model.specs.Ground.{Ground}
@@ -68,6 +68,7 @@ module _ (g : Ground) (effort : Effort) (sizes : Sizes) (f : Found) (by : IsFoun
       answered_by left is_left certificate is_text short = record {
         is_answer = answered certificate is_text short;
         certified = subst (λ (l : Closing). IsCertificateOf g l.image.rows f.certificate) is_left by.certified;
+        same = ap (told_of g effort sizes) is_left;
       }
 
       pub measured : IsMeasuredOf g effort sizes (record { report = report; converged = converged })

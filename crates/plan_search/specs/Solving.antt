@@ -5,7 +5,7 @@
 --     told_of g effort sizes left    what is told of a search that left this
 --     IsFoundBy g effort sizes f     a solver left this, with its certificate
 --     IsAnswerLeft g effort sizes left a
---                                    what is answered of this, whose certificate it has
+--                                    what is answered of this, whose certificate it has, and of which it tells
 --     IsUnwritten c stop             why a certificate of version 2 has no text
 use Rattle.std.specs.Prelude.{◌≡◌, ◌⊎◌, ℕ, ◌+◌, ◌<◌, length}
 use Rattle.ground_model.specs.Ground.{Ground}
@@ -60,6 +60,7 @@ pub record IsFoundBy (g : Ground) (effort : Effort) (sizes : Sizes) (f : Found) 
 pub record IsAnswerLeft (g : Ground) (effort : Effort) (sizes : Sizes) (left : Closing) (a : Answer) : Type 0 where
   pub is_answer : IsAnswerOf g effort sizes a
   pub certified : IsCertificateOf g left.image.rows is_answer.content
+  pub same : is_answer.solved ≡ told_of g effort sizes left
 
 -- want of memory, or the limit on the bytes of a certificate
 abbrev pub IsUnwritten : Content → Stop → Type 0

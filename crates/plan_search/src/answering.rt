@@ -7,6 +7,7 @@ ghost use Rattle.plan_request.specs.Laws.{AreSizes};
 ghost use Rattle.plan_request.specs.declared.stop.Stop.TheVariants.{NoMemory};
 ghost use Rattle.plan_search.specs.Answers.{IsMeasuredOf, IsTooLong};
 ghost use Rattle.plan_search.specs.Solving.{solver_effort, solver_sizes, IsAnswerLeft};
+ghost use Rattle.plan_search.specs.Telling.{IsWrittenOf};
 ghost use Rattle.plan_search.specs.Under.{under_lines, IsAnswerWith};
 
 use crate::answer::Answer;
@@ -34,6 +35,7 @@ pub(crate) fn answer_of(
     requires solved { IsSolved problem.now
         (solver_sizes sizes.now) (solver_effort effort.now) closing }
     ensures answer { IfOk result (IsAnswerLeft problem.now effort.now sizes.now closing) }
+    ensures written { IfOk result (IsWrittenOf problem.now effort.now sizes.now closing) }
     ensures stops { IfErr result (λ stop. (stop ≡ NoMemory)
         ⊎ IsTooLong problem.now effort.now sizes.now stop) }
 {
@@ -72,6 +74,7 @@ pub(crate) fn answer_with(
     requires solved { IsSolved problem.now
         (solver_sizes sizes.now) (solver_effort effort.now) closing }
     ensures answer { IfOk result (IsAnswerWith problem.now effort.now sizes.now lower) }
+    ensures written { IfOk result (IsWrittenOf problem.now effort.now sizes.now closing) }
     ensures stops { IfErr result (λ stop. (stop ≡ NoMemory)
         ⊎ IsTooLong problem.now effort.now sizes.now stop) }
 {

@@ -6,12 +6,12 @@ ghost use Rattle.std.specs.Prelude.{◌≡◌, ◌≢◌, ◌⊎◌, ◌↔◌, 
 ghost use Rattle.shelf_io.specs.Causes.{Rose};
 ghost use Rattle.plan_request.specs.declared.stop.status.TheConstants.{BAD_WORDS, WRITE_FAILED};
 ghost use Rattle.plan_request.specs.declared.stop.status.TheConstants.{NO_MEMORY};
-ghost use Rattle.plan_request.specs.Asked.{request_of};
+ghost use Rattle.plan_request.specs.Asked.{request_as_read, spelled_word};
 ghost use Rattle.plan_app.specs.Asking.{IsToWrite, IsToServe};
 ghost use Rattle.plan_app.specs.Endings.{LeavesForWords};
 
-use plan_app::run;
-use plan_request::NO_MEMORY;
+use plan_app::{ProgressLines, run};
+use plan_request::{NO_MEMORY, spelled_word};
 use shelf_io::{FolderShelf, FreeGate, InputSource, OutputSink, Shelf, Sink, Source};
 use std::alloc::{AllocError, Global};
 use std::env;
@@ -32,6 +32,7 @@ fn main(rt: HostRuntime) -> ExitCode {
     // Standard output holds nothing back: each answer is seen as it is put.
     let mut out = OutputSink::make(rt.stdout());
     let mut notes = OutputSink::make(rt.stderr());
+    let mut progress = ProgressLines::make(OutputSink::make(rt.stderr()));
     let status = run_with(
         &rt,
         rt.alloc(),
@@ -40,6 +41,7 @@ fn main(rt: HostRuntime) -> ExitCode {
         &mut source,
         &mut out,
         &mut notes,
+        &mut progress,
     );
     ExitCode::from(status)
 }
@@ -53,8 +55,15 @@ fn words_of(rt: &HostRuntime) -> Result<Vec<String>, AllocError> {
     }
 }
 
-/// Runs the program with these words, and answers its status.
-fn run_with<R: Threads + Sync, S: Shelf, I: Source + Send, O: Sink + Send, N: Sink + Send>(
+/// Runs the program with these words, as they are read, and answers its status.
+fn run_with<
+    R: Threads + Sync,
+    S: Shelf,
+    I: Source + Send,
+    O: Sink + Send,
+    N: Sink + Send,
+    P: Sink + Send,
+>(
     rt: &R,
     alloc: Global,
     words: &[String],
@@ -62,17 +71,18 @@ fn run_with<R: Threads + Sync, S: Shelf, I: Source + Send, O: Sink + Send, N: Si
     source: &mut I,
     out: &mut O,
     notes: &mut N,
+    progress: &mut ProgressLines<P>,
 ) -> u8
     ensures bad_words { result ≢ WRITE_FAILED → result ≢ NO_MEMORY
-        → (result ≡ BAD_WORDS) ↔ (request_of (map string_bytes words.now) ≡ None) }
+        → (result ≡ BAD_WORDS) ↔ (request_as_read (map string_bytes words.now) ≡ None) }
     ensures write_failed { result ≡ WRITE_FAILED → Rose (O.faults out.old) (O.faults out.new)
-        ⊎ (IsToWrite (request_of (map string_bytes words.now))
+        ⊎ (IsToWrite (request_as_read (map string_bytes words.now))
         × Rose (S.write_faults shelf.old) (S.write_faults shelf.new)) }
-    ensures memory { result ≡ NO_MEMORY → IsToServe (request_of (map string_bytes words.now))
+    ensures memory { result ≡ NO_MEMORY → IsToServe (request_as_read (map string_bytes words.now))
         ⊎ (O.taken out.new ≡ O.taken out.old) }
     ensures shelf { LeavesForWords S.held S.read_faults S.write_faults shelf.old shelf.new
-        (request_of (map string_bytes words.now)) }
-    ensures source { IsToServe (request_of (map string_bytes words.now))
+        (request_as_read (map string_bytes words.now)) }
+    ensures source { IsToServe (request_as_read (map string_bytes words.now))
         ⊎ (source.new ≡ source.old) }
 {
     match lent(alloc, words) {
@@ -84,20 +94,21 @@ fn run_with<R: Threads + Sync, S: Shelf, I: Source + Send, O: Sink + Send, N: Si
             source,
             out,
             notes,
+            progress,
             &FreeGate,
         ),
         Err(_) => NO_MEMORY,
     }
 }
 
-/// The words, lent.
+/// The words as they are read, lent.
 fn lent(alloc: Global, words: &[String]) -> Result<Vec<&str>, AllocError>
     ensures { IfOk result (λ texts. map (λ text. text.now) texts.items
-        ≡ map string_bytes words.now) }
+        ≡ map spelled_word (map string_bytes words.now)) }
 {
     let mut texts = Vec::new(alloc);
     for word in words {
-        texts.push(word.as_str())?;
+        texts.push(spelled_word(word.as_str()))?;
     }
     Ok(texts)
 }

@@ -26,6 +26,8 @@ mod merging;
 #[cfg(test)]
 mod problems;
 #[cfg(test)]
+mod progress;
+#[cfg(test)]
 mod reasons;
 #[cfg(test)]
 mod reports;

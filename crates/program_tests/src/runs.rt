@@ -1,7 +1,7 @@
 //! Runs over memory forms.
 
 use crate::texts::shelf_of;
-use plan_app::run;
+use plan_app::{ProgressLines, run};
 use shelf_io::{FreeGate, Gate, MemoryShelf, MemorySink, MemorySource, Sink, Source};
 use std::alloc::{AllocError, Global};
 use std::process::Abort;
@@ -31,7 +31,18 @@ pub(crate) fn run_behind<R: Threads + Sync, I: Source + Send, O: Sink + Send, G:
 ) -> Result<u8, AllocError> {
     let words: Vec<&str> = words.split_ascii_whitespace().collect(alloc)?;
     let mut notes = MemorySink::make(alloc)?;
-    Ok(run(rt, alloc, &words, shelf, source, out, &mut notes, gate))
+    let mut progress = ProgressLines::make(MemorySink::make(alloc)?);
+    Ok(run(
+        rt,
+        alloc,
+        &words,
+        shelf,
+        source,
+        out,
+        &mut notes,
+        &mut progress,
+        gate,
+    ))
 }
 
 /// A source of these bytes, of which the take with this number fails.
@@ -113,11 +124,55 @@ pub(crate) fn run_noted<R: Threads + Sync>(
     let mut source = MemorySource::make(alloc)?;
     let mut out = MemorySink::make(alloc)?;
     let mut notes = MemorySink::make(alloc)?;
-    let (input, sink) = (&mut source, &mut out);
-    run(rt, alloc, &words, shelf, input, sink, &mut notes, &FreeGate);
+    let mut progress = ProgressLines::make(MemorySink::make(alloc)?);
+    run(
+        rt,
+        alloc,
+        &words,
+        shelf,
+        &mut source,
+        &mut out,
+        &mut notes,
+        &mut progress,
+        &FreeGate,
+    );
     drop(source);
     drop(out);
+    drop(progress);
     Ok(notes)
+}
+
+/// Runs words over an input, and answers the status and the sink of the lines that tell of rounds, of which the put
+/// with this number fails, 0 for none.
+pub(crate) fn run_told<R: Threads + Sync>(
+    rt: &R,
+    alloc: Global,
+    shelf: &mut MemoryShelf,
+    words: &str,
+    input: &[u8],
+    put: u64,
+) -> Result<(u8, MemorySink), AllocError> {
+    let words: Vec<&str> = words.split_ascii_whitespace().collect(alloc)?;
+    let mut source = source_of(alloc, input, 0)?;
+    let mut out = MemorySink::make(alloc)?;
+    let mut notes = MemorySink::make(alloc)?;
+    let mut progress = ProgressLines::make(sink_of(alloc, put)?);
+    let status = run(
+        rt,
+        alloc,
+        &words,
+        shelf,
+        &mut source,
+        &mut out,
+        &mut notes,
+        &mut progress,
+        &FreeGate,
+    );
+    drop(source);
+    drop(out);
+    drop(notes);
+    let ProgressLines { sink, .. } = progress;
+    Ok((status, sink))
 }
 
 /// Wants the status and the text of a row.

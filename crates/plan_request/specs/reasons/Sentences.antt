@@ -94,6 +94,7 @@ kind_words (kinds.Amount least most) = least_words least ++ (codes " to " ++ (de
 kind_words (kinds.Whole least most) = codes "a whole number from " ++ (decimal least ++ (codes " to " ++ decimal most))
 kind_words kinds.Ends = codes "depth or new"
 kind_words kinds.Lower = codes "none, cost or relaxed"
+kind_words kinds.Progress = codes "lines, or nothing"
 
 -- what stands before the name of an option, and before that of a word
 abbrev pub hyphens : Text → Text

@@ -1,6 +1,7 @@
 -- How a command is called, as one line, by the table of forms.
 --     value_name name     what stands for the value of an option
 --     is_wanted name      the option is wanted wherever a command has it
+--     is_flag name        the option may stand without its value, of which there is one
 --     usage_of f          a command with its names and its options, which stand in brackets where they may be left out
 --     usages words        that of the command that the first word names; of every command where it names none
 use Rattle.std.specs.Prelude.{Bool, ◌||◌, if◌then◌else◌, List, [], ◌∷◌, ◌++◌, find, flat_map, Option, Some, None, codes}
@@ -10,6 +11,9 @@ use Rattle.plan_request.specs.words.Table.{Form, forms}
 
 abbrev pub is_wanted : Text → Bool
 is_wanted name = bytes_eq name (codes "cert") || bytes_eq name (codes "with") || bytes_eq name (codes "into")
+
+abbrev pub is_flag : Text → Bool
+is_flag name = bytes_eq name (codes "progress")
 
 abbrev pub value_name : Text → Text
 value_name name =
@@ -22,6 +26,7 @@ value_name name =
 abbrev pub option_usage : Text → Text
 option_usage name =
     if is_wanted name then codes " --" ++ name ++ codes " " ++ value_name name
+    else if is_flag name then codes " [--" ++ name ++ codes "]"
     else codes " [--" ++ name ++ codes " " ++ value_name name ++ codes "]"
 
 abbrev pub name_usage : Text → Text

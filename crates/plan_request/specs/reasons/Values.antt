@@ -16,7 +16,7 @@ use Rattle.plan_request.specs.words.Table.{Form}
 use Rattle.plan_request.specs.words.Scans.{formed}
 use Rattle.plan_request.specs.words.Faults.{or_else}
 use Rattle.plan_request.specs.Numbers.{whole, amount}
-use Rattle.plan_request.specs.Asked.{Given, given_in, ends_named, lower_named}
+use Rattle.plan_request.specs.Asked.{Given, given_in, ends_named, lower_named, progress_named}
 use Rattle.plan_request.specs.reasons.Usage.{is_wanted}
 use Rattle.plan_request.specs.declared.reasons.value_kind.ValueKind.{ValueKind}
 use Rattle.plan_request.specs.declared.reasons.value_kind.ValueKind.TheVariants as kinds
@@ -47,6 +47,7 @@ kind_of command name =
     else if bytes_eq (codes "gap") name then kinds.Amount 0 (10 ^ 14)
     else if bytes_eq (codes "ends") name then kinds.Ends
     else if bytes_eq (codes "lower") name then kinds.Lower
+    else if bytes_eq (codes "progress") name then kinds.Progress
     else unwrap_or (whole_kind name) kinds.Name
 
 unfoldable pub fits : ValueKind → Text → Bool
@@ -55,6 +56,7 @@ fits (kinds.Amount least most) text = is_some (amount least most text)
 fits (kinds.Whole least most) text = is_some (whole least most text)
 fits kinds.Ends text = is_some (ends_named text)
 fits kinds.Lower text = is_some (lower_named text)
+fits kinds.Progress text = is_some (progress_named text)
 
 pub data ValueFault : Type 0 where
   -- this option is wanted, and is not given

@@ -87,7 +87,7 @@ check_options = codes "cert" ∷ text_options
 
 abbrev pub run_options : List Text
 run_options = codes "cert" ∷ codes "problem" ∷ codes "penalty" ∷ codes "step-cost" ∷ codes "gap" ∷ codes "rounds" ∷ codes "trials" ∷ codes "depth" ∷ codes "tau"
-    ∷ codes "workers" ∷ codes "states" ∷ codes "sweep-states" ∷ codes "seed" ∷ codes "ends" ∷ []
+    ∷ codes "workers" ∷ codes "states" ∷ codes "sweep-states" ∷ codes "seed" ∷ codes "ends" ∷ codes "progress" ∷ []
 
 abbrev pub solve_options : List Text
 solve_options = codes "lower" ∷ run_options

@@ -8,13 +8,13 @@ ghost use Rattle.plan_request.specs.reasons.Usage.{usage_of};
 use std::alloc::{AllocError, Global};
 
 const SOLVE: &str =
-    "usage: ppddl_plan solve DOMAIN [--lower none|cost|relaxed] --cert FILE [--problem FILE] [--penalty AMOUNT] [--step-cost AMOUNT] [--gap AMOUNT] [--rounds NUMBER] [--trials NUMBER] [--depth NUMBER] [--tau NUMBER] [--workers NUMBER] [--states NUMBER] [--sweep-states NUMBER] [--seed NUMBER] [--ends depth|new]\n";
+    "usage: ppddl_plan solve DOMAIN [--lower none|cost|relaxed] --cert FILE [--problem FILE] [--penalty AMOUNT] [--step-cost AMOUNT] [--gap AMOUNT] [--rounds NUMBER] [--trials NUMBER] [--depth NUMBER] [--tau NUMBER] [--workers NUMBER] [--states NUMBER] [--sweep-states NUMBER] [--seed NUMBER] [--ends depth|new] [--progress]\n";
 
 const CHECK: &str =
     "usage: ppddl_plan check DOMAIN --cert FILE [--problem FILE] [--penalty AMOUNT] [--step-cost AMOUNT]\n";
 
 const SERVE: &str =
-    "usage: ppddl_plan serve DOMAIN --cert FILE [--problem FILE] [--penalty AMOUNT] [--step-cost AMOUNT] [--gap AMOUNT] [--rounds NUMBER] [--trials NUMBER] [--depth NUMBER] [--tau NUMBER] [--workers NUMBER] [--states NUMBER] [--sweep-states NUMBER] [--seed NUMBER] [--ends depth|new]\n";
+    "usage: ppddl_plan serve DOMAIN --cert FILE [--problem FILE] [--penalty AMOUNT] [--step-cost AMOUNT] [--gap AMOUNT] [--rounds NUMBER] [--trials NUMBER] [--depth NUMBER] [--tau NUMBER] [--workers NUMBER] [--states NUMBER] [--sweep-states NUMBER] [--seed NUMBER] [--ends depth|new] [--progress]\n";
 
 const GROUND: &str =
     "usage: ppddl_plan ground DOMAIN [--problem FILE] [--penalty AMOUNT] [--step-cost AMOUNT]\n";

@@ -6,6 +6,7 @@ ghost use Rattle.plan_request.specs.reasons.Values.{fits, kind_of, states_kind, 
 use crate::ends::ends_named;
 use crate::lower::lower_named;
 use crate::numbers::{amount, whole};
+use crate::progress::progress_named;
 
 /// What may be given to an option, or as a positional word.
 #[derive(Clone, Copy, Debug, PartialEq, Eq)]
@@ -20,6 +21,8 @@ pub(super) enum ValueKind {
     Ends,
     /// A name of what is told of the cost from below.
     Lower,
+    /// A name of how rounds are told.
+    Progress,
 }
 
 /// What may be given to `--states` of this command.
@@ -97,6 +100,9 @@ pub(super) fn kind_of(command: &str, name: &str) -> ValueKind
     if "lower" == name {
         return ValueKind::Lower;
     }
+    if "progress" == name {
+        return ValueKind::Progress;
+    }
     match whole_kind(name) {
         Some(kind) => kind,
         None => ValueKind::Name,
@@ -115,6 +121,7 @@ impl ValueKind {
             ValueKind::Whole(least, most) => whole(text, least, most).is_some(),
             ValueKind::Ends => ends_named(text).is_some(),
             ValueKind::Lower => lower_named(text).is_some(),
+            ValueKind::Progress => progress_named(text).is_some(),
         }
     }
 }

@@ -22,7 +22,7 @@ static TEXT_OPTIONS: [&str; 3] = ["problem", "penalty", "step-cost"];
 
 static CHECK_OPTIONS: [&str; 4] = ["cert", "problem", "penalty", "step-cost"];
 
-static RUN_OPTIONS: [&str; 14] = [
+static RUN_OPTIONS: [&str; 15] = [
     "cert",
     "problem",
     "penalty",
@@ -37,9 +37,10 @@ static RUN_OPTIONS: [&str; 14] = [
     "sweep-states",
     "seed",
     "ends",
+    "progress",
 ];
 
-static SOLVE_OPTIONS: [&str; 15] = [
+static SOLVE_OPTIONS: [&str; 16] = [
     "lower",
     "cert",
     "problem",
@@ -55,6 +56,7 @@ static SOLVE_OPTIONS: [&str; 15] = [
     "sweep-states",
     "seed",
     "ends",
+    "progress",
 ];
 
 static MERGE_OPTIONS: [&str; 6] = ["with", "into", "cert", "problem", "penalty", "step-cost"];

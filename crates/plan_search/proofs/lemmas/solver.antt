@@ -3,3 +3,4 @@ pub mod Reading
 pub mod Listing
 pub mod Ending
 pub mod Answering
+pub mod Telling

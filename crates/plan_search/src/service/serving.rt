@@ -4,6 +4,7 @@ ghost use Rattle.std.specs.Prelude.{◌≤◌, ◌⊎◌, IfOk, IfErr};
 ghost use Rattle.bound_core.specs.ends.Closing.{closing_rows};
 ghost use Rattle.plan_search.specs.solver.Opened.{AreSizes};
 ghost use Rattle.plan_search.specs.solver.Solved.{IsSolved};
+ghost use Rattle.plan_search.specs.solver.Told.{AreToldOf, HasTold};
 ghost use Rattle.plan_search.specs.service.Served.{streams, IsServed, IsUnserved, WasServed};
 
 use crate::service::Service;
@@ -14,6 +15,7 @@ use policy_server::QueryBuffer;
 use shelf_io::{Gate, Sink, Source};
 use std::alloc::{AllocError, Global};
 use std::thread::Threads;
+use trial_workers::Watcher;
 use word_table::{join, split};
 
 /// Solves a problem as the solver's `solve` does, and meanwhile answers queries line by line, each by what is known
@@ -21,12 +23,13 @@ use word_table::{join, split};
 ///
 /// It is refused for want of memory alone: before any query is taken, or when the table is closed behind the last
 /// answer. It waits for its workers, and for source and sink.
-pub fn serve<R: Threads + Sync, I: Source, O: Sink, G: Gate>(
+pub fn serve<R: Threads + Sync, W: Watcher + Send, I: Source, O: Sink, G: Gate>(
     rt: &R,
     alloc: Global,
     problem: &GroundProblem,
     sizes: &Sizes,
     effort: &Effort,
+    watcher: &mut W,
     source: &mut I,
     sink: &mut O,
     gate: &G,
@@ -34,6 +37,8 @@ pub fn serve<R: Threads + Sync, I: Source, O: Sink, G: Gate>(
     requires sizes { AreSizes sizes.now }
     requires deep { 1 ≤ effort.now.depth }
     ensures solved { IfOk result (λ s. IsSolved problem.now sizes.now effort.now s.closing) }
+    ensures told { HasTold W.tells watcher.old watcher.new (λ rs.
+        IfOk result (λ s. AreToldOf problem.now sizes.now s.closing rs)) }
     ensures served { let shown = streams I.left I.ends I.faults O.taken O.faults
         in let from = shown source.old sink.old in let to = shown source.new sink.new
         in IfOk result (λ s. let rows = closing_rows s.closing.image.rows
@@ -68,6 +73,7 @@ pub fn serve<R: Threads + Sync, I: Source, O: Sink, G: Gate>(
         &mut crew,
         &extent,
         effort,
+        watcher,
         gate,
         source,
         sink,

@@ -1,5 +1,6 @@
 -- The clauses of the top call, from how the words may end and what was put.
 use Rattle.std.proofs.Common.{◌≡◌, ◌≢◌, ◌⊎◌, ◌++◌, inl, inr, sym, ap, ◌∙◌, subst, arith, Err}
+use Rattle.std.specs.Prelude.{IfOk}
 use Rattle.std.specs.Io.KnownBytes.{Appends}
 use Rattle.shelf_io.specs.Causes.{Rose}
 use Rattle.policy_server.specs.Serving.{input}
@@ -36,6 +37,8 @@ use Rattle.plan_app.proofs.Merged.{merged_exactly, unmerged_exactly, merge_put}
 use Rattle.plan_app.proofs.Walked.{walks_told}
 use Rattle.plan_app.proofs.Drawn.{draw_put}
 use Rattle.plan_app.proofs.Solved.{solution_put, service_put, measure_put, report_is_a_verdict}
+use Rattle.plan_app.specs.Progress.{TellsAsked, AreToldOf}
+use Rattle.plan_app.proofs.Progress.{told_in, none_in, reported, rounds_reported}
 use Rattle.plan_app.proofs.program.run.Given.{Over}
 use Rattle.plan_app.proofs.program.run.Goals as goal
 
@@ -268,3 +271,28 @@ returns-clause-reasons g c = c.put_ending.ensures.reasons
 
 pub returns-clause-no_reasons : goal.returns-clause-no_reasons
 returns-clause-no_reasons g c = c.put_ending.ensures.no_reasons
+
+-- ---- rounds
+
+pub returns-clause-tells : goal.returns-clause-tells
+returns-clause-tells g c = λ s asks.
+    let held = g.S.Shelf.held in let old = c.args.shelf.now in let new = c.report_of-ending.new.shelf in
+    let tells = subst
+    (λ o. TellsAsked g.P.Sink.taken g.P.Sink.faults o c.args.progress.now c.report_of-ending.new.progress
+    (λ s rs. IfOk c.report_of-ending.result (λ _. AreToldOf held old new s rs)))
+    (told_in (asked_by c.args.words.now) s asks) c.report_of-ending.ensures.tells in (
+      tells.0,
+      tells.1,
+      tells.2,
+      λ t texts named has.
+          let written : c.put_ending.result ≢ WRITE_FAILED = λ four. elim has [ inl zero ↦ omega (arith, zero, four) | inr one ↦ omega (arith, one, four) ] in
+          rounds_reported held old new c.source_laws.ensures.told s t texts named tells.0
+          (reported c.report_of-ending.result c.put_ending.result _ _ (c.put_ending.ensures.put written) has (AreToldOf held old new s tells.0) tells.3),
+    )
+
+pub returns-clause-quiet : goal.returns-clause-quiet
+returns-clause-quiet g c = λ no.
+    subst
+    (λ o. TellsAsked g.P.Sink.taken g.P.Sink.faults o c.args.progress.now c.report_of-ending.new.progress
+    (λ s rs. IfOk c.report_of-ending.result (λ _. AreToldOf g.S.Shelf.held c.args.shelf.now c.report_of-ending.new.shelf s rs)))
+    (none_in (asked_by c.args.words.now) no) c.report_of-ending.ensures.tells

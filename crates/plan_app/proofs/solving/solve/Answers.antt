@@ -4,6 +4,8 @@ use Rattle.plan_request.specs.Shown.{shown_solving}
 use Rattle.plan_search.specs.Under.{with_report, IsAnswerWith}
 use Rattle.plan_search.specs.Answers.{IsTooLong}
 use Rattle.plan_app.specs.Endings.{IsHeld}
+use Rattle.plan_app.specs.Progress.{rounds_of}
+use Rattle.plan_app.proofs.Progress.{asked_told, nothing_told, told_held}
 use Rattle.plan_app.proofs.Flow.{solve_stops, solve_ends, search_stops, search_held, wrote, under_name, leaves, nothing_written, calls_alone, calls_behind}
 use Rattle.plan_app.proofs.Names.{given_names}
 use Rattle.plan_app.proofs.solving.solve.Goals as goal
@@ -83,3 +85,21 @@ returns-clause-shelf g c =
     (under_name g.S.Shelf.held g.S.Shelf.read_faults g.S.Shelf.write_faults c.args.shelf.now c.problem_of.new.shelf c.write.new.shelf
     c.problem_of.ensures.shelf.held_same s.certificate a c.write.result c.write.ensures.written c.write.ensures.stops c.write.ensures.memory)
     c.write.ensures.others c.write.ensures.reads c.write.ensures.once
+
+-- ---- what is told of its rounds
+
+pub returns-in_err-problem-clause-tells : goal.returns-in_err-problem-clause-tells
+returns-in_err-problem-clause-tells g c =
+    nothing_told g.P.Sink.taken g.P.Sink.faults (rounds_of (shown_solving c.args.solving.now)) c.args.progress.now _ (λ s. search rules)
+
+pub returns-in_err-answer-clause-tells : goal.returns-in_err-answer-clause-tells
+returns-in_err-answer-clause-tells g c =
+    asked_told g.P.Sink.taken g.P.Sink.faults (shown_solving c.args.solving.now) c.args.progress.now c.solve.new.watcher _ _
+    c.in_err-answer.ensures.told (λ rs is. search rules)
+
+pub returns-clause-tells : goal.returns-clause-tells
+returns-clause-tells g c =
+    let s = shown_solving c.args.solving.now in let a = c.in_ok-answer.answer in
+    asked_told g.P.Sink.taken g.P.Sink.faults s c.args.progress.now c.solve.new.watcher _ _ c.in_ok-answer.ensures.told
+    (λ rs is. told_held g.S.Shelf.held c.args.shelf.now c.problem_of.new.shelf c.write.new.shelf c.problem_of.ensures.shelf.held_same s
+    c.in_ok-problem.problem c.in_ok-problem.ensures.ends a rs is c.write.result c.write.ensures.written)

@@ -1,12 +1,8 @@
 -- From the rounds to the answer.
-use Rattle.std.proofs.Common.{◌≡◌, ⊎_elim, ℕ, ◌+◌, ◌≤◌, Some, List, [], ◌∷◌, length, take, refl, sym, subst, inl, inr, arith}
+use Rattle.std.proofs.Common.{◌≡◌, ⊎_elim, ◌+◌, ◌≤◌, Some, List, [], ◌∷◌, length, take, refl, sym, subst, inl, inr, arith}
 use Rattle.std.specs.List.{slice_get}
 use Rattle.std.proofs.lemmas.List.Elements.{length_all_zip}
-use Rattle.plain_list.proofs.lemmas.weighted.Totals.{total-weighted_le}
-use Rattle.decision_process.specs.Process.{Start, at_starts}
-use Rattle.decision_process.specs.Backup.{floor, ceiling}
 use Rattle.decision_process.specs.Readings.{low, high}
-use Rattle.decision_process.proofs.Rounding.{floor_rises, ceiling_rises}
 use Rattle.decision_process.specs.sweeps.Sweeps.{IsNear}
 use Rattle.ground_model.specs.Packed.{State, same_state}
 use Rattle.ground_model.specs.Ground.{Ground}
@@ -26,6 +22,7 @@ use Rattle.trial_workers.specs.declared.worker.Worker.{Worker}
 use Rattle.trial_workers.specs.Workers.{Stays}
 use Rattle.trial_workers.specs.Crews.{AreNear, HaveStayed}
 use Rattle.trial_workers.proofs.Counting.{taken_at, starts_first}
+use Rattle.trial_workers.proofs.Means.{floors_rise, ceilings_rise}
 use Rattle.bound_core.specs.ends.Closing.{closing_rows, HasStartsFirst, HasRowOf}
 use Rattle.bound_core.specs.ends.Ends.{closing_low, closing_high}
 use Rattle.plan_search.specs.declared.solver.sizes.Sizes.{Sizes}
@@ -35,18 +32,6 @@ use Rattle.plan_search.specs.solver.Solved.{IsSolved}
 use Rattle.plan_search.specs.solver.Laws.{FirstHasSolved, LaterHasSolved, ClosingIsSolved, closing_of}
 use Rattle.plan_search.proofs.lemmas.solver.Listing.{opened_lists}
 use Rattle.plan_search.proofs.lemmas.solver.Rows.{place_of}
-
--- ---- the means over the starts
-
-means_rise : (f h : State → ℕ) (starts : List (Start State)) → ((s : State) → f s ≤ h s) → at_starts f starts ≤ at_starts h starts
-means_rise f h starts each = total-weighted_le (λ (x : Start State). x.weight) (λ x. f x.state) (λ x. h x.state) starts (λ x inside. each x.state)
-
-module _ (g : Ground) (f h : State → ℕ) (each : (s : State) → f s ≤ h s) where
-  floors_rise : floor (at_starts f (ground_starts g)) g.start_den ≤ floor (at_starts h (ground_starts g)) g.start_den
-  floors_rise = floor_rises (at_starts f (ground_starts g)) (at_starts h (ground_starts g)) g.start_den (means_rise f h (ground_starts g) each)
-
-  ceilings_rise : ceiling (at_starts f (ground_starts g)) g.start_den ≤ ceiling (at_starts h (ground_starts g)) g.start_den
-  ceilings_rise = ceiling_rises (at_starts f (ground_starts g)) (at_starts h (ground_starts g)) g.start_den (means_rise f h (ground_starts g) each)
 
 -- ---- the pass of worker 0, and passes that have noted more
 
@@ -97,10 +82,10 @@ later_has_solved b effort workers states x solved k l has here more =
 -- ---- the answer
 
 module _ (b : Board) (v : View) (image : Image) (ended : IsEnded b v image) where
-  low_is_narrower : lower_mean b.problem v ≤ closing_low b.problem image.rows
+  pub low_is_narrower : lower_mean b.problem v ≤ closing_low b.problem image.rows
   low_is_narrower = floors_rise b.problem (seen_lower v) (low same_state (closing_rows image.rows)) ended.lower
 
-  high_is_narrower : closing_high b.problem image.rows ≤ upper_mean b.problem v
+  pub high_is_narrower : closing_high b.problem image.rows ≤ upper_mean b.problem v
   high_is_narrower = ceilings_rise b.problem (high (ground_process b.problem) same_state (closing_rows image.rows)) (seen_value v) ended.upper
 
 module _ (b : Board) (sizes : Sizes) (effort : Effort) (states : List State) (extent : Extent) (listed : AreNear b.problem sizes.sweep_states states extent)
