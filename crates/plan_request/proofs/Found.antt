@@ -10,10 +10,11 @@ use Rattle.plan_request.specs.words.Parses.{HasValues}
 use Rattle.plan_request.specs.declared.words.parsing.Parsed.{Parsed}
 use Rattle.plan_request.specs.declared.command.Command.{Command}
 use Rattle.plan_request.specs.declared.command.Command.TheVariants.{Solve, Check, Serve, Ground, Bench, Merge, Walk, Draw}
+use Rattle.plan_request.specs.declared.ends.Ends.{Ends}
 use Rattle.plan_request.specs.declared.lower.Lower.{Lower}
 use Rattle.plan_request.specs.declared.lower.Lower.TheVariants as lowers
 use Rattle.plan_request.specs.Commands.{command_named}
-use Rattle.plan_request.specs.Asked.{Given, to_solve, to_serve, to_ground, to_merge, to_walk, to_draw, given_in}
+use Rattle.plan_request.specs.Asked.{Given, Solving, progress_of, to_solve, to_serve, to_ground, to_merge, to_walk, to_draw, given_in}
 use Rattle.plan_request.specs.Asked.{sources_of, effort_of, sizes_of, lower_of, solving_of, merging_of, walking_of, drawing_of, solved_of, checked_of, benched_of, asked_by}
 use Rattle.plan_request.specs.Shown.{given_by}
 use Rattle.plan_request.proofs.Options.{chosen}
@@ -82,13 +83,21 @@ module _ (g h : Given) where
   effort_same a b c d e f k = rw (a, b, c, d, e, f, k) refl
 
   sizes_same : g (codes "workers") ≡ h (codes "workers") → g (codes "states") ≡ h (codes "states") → g (codes "sweep-states") ≡ h (codes "sweep-states")
-      → sizes_of g ≡ sizes_of h
+      → (ends : Ends) → sizes_of ends g ≡ sizes_of ends h
   unfolding sizes_of
-  sizes_same a b c = rw (a, b, c) refl
+  sizes_same a b c ends = rw (a, b, c) refl
 
-  solving_same : (lower : Lower) → sources_of g ≡ sources_of h → g (codes "cert") ≡ h (codes "cert") → effort_of g ≡ effort_of h → sizes_of g ≡ sizes_of h → g (codes "progress") ≡ h (codes "progress") → solving_of lower g ≡ solving_of lower h
+  solving_same : (lower : Lower) → sources_of g ≡ sources_of h → g (codes "cert") ≡ h (codes "cert") → effort_of g ≡ effort_of h → ((ends : Ends) → sizes_of ends g ≡ sizes_of ends h) → g (codes "progress") ≡ h (codes "progress") → solving_of lower g ≡ solving_of lower h
   unfolding solving_of
-  solving_same lower a b c d e = rw (a, b, c, d, e) refl
+  solving_same lower a b c d e =
+      (λ j. option_and_then (λ sources. option_and_then (λ certificate. option_and_then (λ effort. option_and_then (λ sizes. option_and_then (λ progress. let s : Solving = record {
+        sources = sources;
+        certificate = certificate;
+        effort = effort;
+        sizes = sizes;
+        lower = lower;
+        progress = progress;
+      } in Some s) (progress_of (e j))) (d effort.ends j)) (c j)) (b j)) (a j))
 
   solved_same : g (codes "lower") ≡ h (codes "lower") → ((lower : Lower) → solving_of lower g ≡ solving_of lower h) → solved_of g ≡ solved_of h
   unfolding solved_of

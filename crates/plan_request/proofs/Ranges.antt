@@ -9,11 +9,13 @@ use Rattle.plan_request.specs.words.Scans.{formed}
 use Rattle.plan_request.specs.words.Words.{Text}
 use Rattle.plan_request.specs.Numbers.{◌>>=◌, whole, amount, at_least, unless_given}
 use Rattle.plan_request.specs.Commands.{command_named}
+use Rattle.plan_request.specs.declared.ends.Ends.{Ends}
+use Rattle.plan_request.specs.declared.ends.Ends.TheVariants as to
 use Rattle.plan_request.specs.declared.lower.Lower.{Lower}
 use Rattle.plan_request.specs.declared.lower.Lower.TheVariants as lowers
 use Rattle.plan_request.specs.declared.command.Command.{Command}
 use Rattle.plan_request.specs.declared.command.Command.TheVariants.{Solve, Check, Serve, Ground, Bench, Merge, Walk, Draw}
-use Rattle.plan_request.specs.Asked.{Given, Asked, to_serve, to_ground, to_merge, to_walk, to_draw, given_in, lower_of, ends_of, progress_of}
+use Rattle.plan_request.specs.Asked.{Given, Asked, to_serve, to_ground, to_merge, to_walk, to_draw, given_in, lower_of, ends_of, swept_unasked, progress_of}
 use Rattle.plan_request.specs.Asked.{penalty_of, sources_of, effort_of, sizes_of, solving_of, merging_of, walking_of, drawing_of, solved_of, checked_of, benched_of, asked_as, asked_by, request_of}
 use Rattle.plan_request.specs.Laws.{IsBetween, AreTerms, IsEffort, AreSizes, IsSolving, IsMerging, IsWalking, IsDrawing, IsInRange}
 use Rattle.plan_request.proofs.Options.{of_some, if_then_some, if_mapped, if_bound, if_any}
@@ -93,15 +95,16 @@ effort_in given =
     (λ seed f. if_bound _ IsEffort (ends_of (given (codes "ends"))) _ (if_any _)
     (λ ends _. record { gap = a.1; rounds = b.1; trials = c.1; depth = d; tau = e; seed = omega (arith, f.1) })))))))
 
-swept_default : (states : ℕ) → 65 ≤ states → IsBetween 64 (states - 1) (min 4096 (states - 1))
-swept_default states le = (omega arith, omega arith)
+swept_default : (ends : Ends) (states : ℕ) → 65 ≤ states → IsBetween 64 (states - 1) (swept_unasked ends (states - 1))
+swept_default to.Depth states le = (omega arith, omega arith)
+swept_default to.New states le = (omega arith, omega arith)
 
-sizes_in : (given : Given) → IfSome (sizes_of given) AreSizes
+sizes_in : (ends : Ends) (given : Given) → IfSome (sizes_of ends given) AreSizes
 unfolding sizes_of
-sizes_in given =
+sizes_in ends given =
     if_bound _ AreSizes (unless_given 4 (whole 1 16) (given (codes "workers"))) _ (whole_in 4 1 16 (lit≤ tt, lit≤ tt) (given (codes "workers")))
     (λ workers a. if_bound _ AreSizes (unless_given 65536 (whole 65 262144) (given (codes "states"))) _ (whole_in 65536 65 262144 (lit≤ tt, lit≤ tt) (given (codes "states")))
-    (λ states b. if_bound _ AreSizes (unless_given (min 4096 (states - 1)) (whole 64 (states - 1)) (given (codes "sweep-states"))) _ (whole_in (min 4096 (states - 1)) 64 (states - 1) (swept_default states b.0) (given (codes "sweep-states")))
+    (λ states b. if_bound _ AreSizes (unless_given (swept_unasked ends (states - 1)) (whole 64 (states - 1)) (given (codes "sweep-states"))) _ (whole_in (swept_unasked ends (states - 1)) 64 (states - 1) (swept_default ends states b.0) (given (codes "sweep-states")))
     (λ swept c. record { workers = a; states = b; least_swept = c.0; fewer_swept = omega (arith, c.1, b.0) })))
 
 solving_in : (lower : Lower) (given : Given) → IfSome (solving_of lower given) IsSolving
@@ -110,7 +113,7 @@ solving_in lower given =
     if_bound AreTerms IsSolving (sources_of given) _ (sources_in given)
     (λ sources a. if_bound _ IsSolving (given (codes "cert")) _ (if_any _)
     (λ certificate _. if_bound IsEffort IsSolving (effort_of given) _ (effort_in given)
-    (λ effort b. if_bound AreSizes IsSolving (sizes_of given) _ (sizes_in given)
+    (λ effort b. if_bound AreSizes IsSolving (sizes_of effort.ends given) _ (sizes_in effort.ends given)
     (λ sizes c. if_bound _ IsSolving (progress_of (given (codes "progress"))) _ (if_any _)
     (λ progress _. record { terms = a; effort = b; sizes = c })))))
 

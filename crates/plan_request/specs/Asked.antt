@@ -13,8 +13,9 @@
 --     Merging, merging_of given    two certificates of a task to merge, and the name under which what comes of them goes
 --     Walking, walking_of given    walks to make under the policy of a certificate
 --     Drawing, drawing_of given    the graph of a certificate's policy to draw, and the name under which its text goes
---     effort_of given, sizes_of given
---                                  when the search ends and what its trials are, and its sizes
+--     effort_of given              when the search ends and what its trials are
+--     swept_unasked ends most      the states that each round goes through where no number is given, at most so many
+--     sizes_of ends given          the sizes of a search whose trials end so
 --     Asked                        a request
 --     asked_as command given       what a command asks for
 --     given_in f items             what stands under a name in words in form
@@ -88,11 +89,16 @@ effort_of given = do
     ends = ends;
   })
 
-unfoldable pub sizes_of : Given → Option Sizes
-sizes_of given = do
+-- trials that end at new states list the states that a sweep is then good for
+abbrev pub swept_unasked : Ends → ℕ → ℕ
+swept_unasked to.Depth most = min 4096 most
+swept_unasked to.New most = 64
+
+unfoldable pub sizes_of : Ends → Given → Option Sizes
+sizes_of ends given = do
   workers ← unless_given 4 (whole 1 16) (given (codes "workers"))
   states ← unless_given 65536 (whole 65 262144) (given (codes "states"))
-  sweep_states ← unless_given (min 4096 (states - 1)) (whole 64 (states - 1)) (given (codes "sweep-states"))
+  sweep_states ← unless_given (swept_unasked ends (states - 1)) (whole 64 (states - 1)) (given (codes "sweep-states"))
   Some (record { workers = workers; states = states; sweep_states = sweep_states })
 
 unfoldable pub lower_named : Text → Option Lower
@@ -124,7 +130,7 @@ solving_of lower given = do
   sources ← sources_of given
   certificate ← given (codes "cert")
   effort ← effort_of given
-  sizes ← sizes_of given
+  sizes ← sizes_of effort.ends given
   progress ← progress_of (given (codes "progress"))
   Some (record {
     sources = sources;

@@ -36,7 +36,7 @@ pub(crate) fn solving_of<'a>(parsed: &Parsed<'a>, lower: Lower) -> Option<Solvin
     let sources = sources_of(parsed)?;
     let certificate = parsed.value("cert")?;
     let effort = effort_of(parsed)?;
-    let sizes = sizes_of(parsed)?;
+    let sizes = sizes_of(parsed, effort.ends)?;
     let progress = progress_of(parsed)?;
     Some(Solving {
         sources,

@@ -112,11 +112,11 @@ static EXAMPLES: [(&str, &str); 3] = [
     ),
     (
         WORKSHOP,
-        "converged\ninterval 21.999540 22.000060\nstates 615\nrounds 5\nstart 1/1 21.999540 22.000060 (put lid lathe) :\n",
+        "converged\ninterval 21.999825 22.000015\nstates 614\nrounds 15\nstart 1/1 21.999825 22.000015 (put pin lathe) :\n",
     ),
     (
         BOXES,
-        "converged\ninterval 27.874995 27.875005\nstates 177\nrounds 1\nstart 1/1 27.874995 27.875005 (drive lorry oslo lom voss) : (box-at crate bergen) (box-at trunk alta) (truck-at lorry oslo)\n",
+        "converged\ninterval 27.874995 27.875005\nstates 177\nrounds 3\nstart 1/1 27.874995 27.875005 (drive lorry oslo lom voss) : (box-at crate bergen) (box-at trunk alta) (truck-at lorry oslo)\n",
     ),
 ];
 

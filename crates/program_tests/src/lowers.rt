@@ -89,12 +89,12 @@ static ROADS: [(&str, u8, &str); 2] = [
     (
         "solve road --cert c --penalty 1000 --lower cost --rounds 0",
         1,
-        "stopped budget\ninterval 0.000000 1000.000000\nstates 201\nrounds 0\nstart 1/1 0.000000 1000.000000 give-up : (at p0)\nunder 1.000000\n",
+        "stopped budget\ninterval 0.000000 1000.000000\nstates 65\nrounds 0\nstart 1/1 0.000000 1000.000000 give-up : (at p0)\nunder 1.000000\n",
     ),
     (
         "solve road --cert c --penalty 1000 --lower relaxed --rounds 0",
         1,
-        "stopped budget\ninterval 0.000000 1000.000000\nstates 201\nrounds 0\nstart 1/1 0.000000 1000.000000 give-up : (at p0)\nunder 200.000000\n",
+        "stopped budget\ninterval 0.000000 1000.000000\nstates 65\nrounds 0\nstart 1/1 0.000000 1000.000000 give-up : (at p0)\nunder 200.000000\n",
     ),
 ];
 

@@ -16,12 +16,24 @@ const DEFAULT_EFFORT: Effort = Effort {
 const DEFAULT_SIZES: Sizes = Sizes {
     workers: 4,
     states: 65_536,
-    sweep_states: 4_096,
+    sweep_states: 64,
 };
 
 /// Words that ask to solve `coin`, the name of the certificate, and the numbers.
-static SOLVING: [(&str, &str, Effort, Sizes); 2] = [
+static SOLVING: [(&str, &str, Effort, Sizes); 3] = [
     ("solve coin --cert c", "c", DEFAULT_EFFORT, DEFAULT_SIZES),
+    (
+        "solve coin --cert c --ends depth",
+        "c",
+        Effort {
+            ends: Ends::Depth,
+            ..DEFAULT_EFFORT
+        },
+        Sizes {
+            sweep_states: 4_096,
+            ..DEFAULT_SIZES
+        },
+    ),
     (
         "solve --cert=c=d coin --gap 0.5 --seed 007 --states=65 --ends depth",
         "c=d",
