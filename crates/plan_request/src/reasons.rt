@@ -185,7 +185,8 @@ fn reason_under(alloc: Global, names: &Names<'_>, stop: Stop) -> Result<String, 
 
 /// Why the run that these words ask for was stopped: what is wrong and where, as a line with its line feed.
 /// There is one where texts are refused, a certificate is not accepted or a limit is passed, and nothing of
-/// other stops. Of words that ask for nothing it is the first fault, with how to call the command behind it. It is refused for want of memory alone.
+/// other stops. Of words that ask for nothing it is the first fault, with how to call the command behind it. It is
+/// refused for want of memory alone.
 pub fn reason_of(alloc: Global, words: &[&str], stop: Stop) -> Result<String, AllocError>
     ensures { IfOk result (λ text. string_bytes text ≡ reason_of (texts_of words.now) stop) }
 {
