@@ -3,9 +3,11 @@ pub mod Arena
 pub mod Buckets
 pub mod Distinct
 pub mod Ending
+pub mod Following
 pub mod Places
 pub mod Popping
 pub mod Rising
+pub mod RowSides
 pub mod RowVerdict
 pub mod Sound
 pub mod Stating

@@ -12,7 +12,7 @@ use Rattle.certificate_check.specs.declared.row_check.act.Act.{Act}
 use Rattle.certificate_check.specs.declared.row_check.fault.Fault.{Fault}
 use Rattle.certificate_check.specs.declared.row_check.fault.Fault.TheVariants as fault
 use Rattle.certificate_check.specs.declared.row_check.claim.Claim.{Claim}
-use Rattle.certificate_check.specs.declared.row_check.row.Scratch.{Scratch}
+use Rattle.certificate_check.specs.declared.row_check.scratch.Scratch.{Scratch}
 use Rattle.certificate_check.specs.row_check.Faults.{IsFirstFault, IsReadAt, HasRoom}
 use Rattle.certificate_check.specs.declared.rows.Room.{Room}
 use Rattle.certificate_check.specs.Pass.{HasRoomFor}

@@ -5,5 +5,7 @@ pub mod GroundRows
 pub mod Buckets
 pub mod Packing
 pub mod Pass
+pub mod Sides
 pub mod Laws
+pub mod FollowingLaws
 pub mod row_check

@@ -15,8 +15,11 @@ mod readings;
 mod row_check;
 mod row_table;
 mod rows;
+mod sides;
 mod verdict;
 
 pub use checker::check;
-pub use laws::check_laws;
+pub use laws::{check_laws, following_laws};
+pub use row_check::{Means, Sides};
+pub use sides::{row_sides, start_means};
 pub use verdict::Verdict;

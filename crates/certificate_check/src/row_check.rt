@@ -6,17 +6,22 @@
 mod act;
 mod bounds;
 mod claim;
-mod conditions;
 mod ends;
 mod fault;
 mod reading;
 mod row;
+mod scratch;
+mod sides;
 mod sums;
 
 pub(crate) use act::Act;
 pub(crate) use bounds::Bounds;
 pub(crate) use claim::Claim;
-pub(crate) use ends::is_interval;
+pub use ends::Means;
+pub(crate) use ends::{is_interval, read_means};
 pub(crate) use fault::Fault;
 pub(crate) use reading::Reading;
-pub(crate) use row::{Scratch, row_fault};
+pub(crate) use row::row_fault;
+pub(crate) use scratch::Scratch;
+pub use sides::Sides;
+pub(crate) use sides::sides_at;

@@ -5,7 +5,7 @@ use Rattle.std.specs.List.{flat_map}
 use Rattle.std.proofs.lemmas.Option.{slice_get_within}
 use Rattle.plain_list.proofs.Members.{Contains-first, Contains-later}
 use Rattle.fixed_round.specs.Words.{value_of}
-use Rattle.decision_process.specs.Readings.{Row, RowAct, GivesUp, AtGoal, Takes, action_of, low, high, act, IsMarked}
+use Rattle.decision_process.specs.Readings.{Row, RowAct, GivesUp, AtGoal, Takes, action_of, low, high, IsMarked}
 use Rattle.ground_model.specs.declared.action.GroundAction.{GroundAction}
 use Rattle.ground_model.specs.declared.start.Start.{Start}
 use Rattle.ground_model.specs.Packed.{State, same_state}

@@ -1,3 +1,4 @@
+pub mod Telling
 pub mod Joining
 pub mod Known
 pub mod lemmas

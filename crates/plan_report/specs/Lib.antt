@@ -1,5 +1,6 @@
 pub mod Units
 pub mod Reports
+pub mod Account
 pub mod Solved
 pub mod StartRows
 pub mod Laws

@@ -4,7 +4,7 @@ ghost use Rattle.std.specs.Prelude.{◌≡◌, ◌++◌, decimal, OnOk};
 ghost use Rattle.plan_report.specs.Units.{units};
 ghost use Rattle.plan_report.specs.Reports.{counted_line, fraction_text, interval_line};
 
-use crate::units::put_units;
+use crate::units::{put_units, six_digits};
 use itoa::Buffer;
 use std::alloc::AllocError;
 
@@ -59,4 +59,19 @@ pub(crate) fn push_interval(out: &mut Vec<u8>, lower: u64, upper: u64) -> Result
     push_units(out, b" ", upper)?;
     out.push(b'\n')?;
     Ok(())
+}
+
+/// Appends a word and an amount of up to 128 bits behind it, in units.
+pub(crate) fn push_wide_units(
+    out: &mut Vec<u8>,
+    word: &[u8],
+    amount: u128,
+) -> Result<(), AllocError>
+    ensures { OnOk result (out.new.items ≡ out.old.items ++ (word.now ++ units amount)) }
+{
+    out.extend_from_slice(word)?;
+    let mut buffer = Buffer::new();
+    out.extend_from_slice(buffer.format(amount / 1_000_000).as_bytes())?;
+    out.push(b'.')?;
+    out.extend_from_slice(&six_digits((amount % 1_000_000) as u64))
 }

@@ -14,7 +14,7 @@ fn digit(number: u64, place: u64) -> u8
 }
 
 /// The six digits of a number below a million, with zeros in front.
-fn six_digits(number: u64) -> [u8; 6]
+pub(crate) fn six_digits(number: u64) -> [u8; 6]
     ensures { result ≡ six_digits number }
 {
     [

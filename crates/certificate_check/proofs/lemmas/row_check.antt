@@ -1,4 +1,4 @@
-pub mod FirstFault
 pub mod Open
 pub mod Rows
+pub mod Sides
 pub mod Totals

@@ -8,25 +8,20 @@
 --     IsReadAt g low high s claim
 --                                off goals the state is read as the claim says
 --     HasRoom g s scratch        the scratch has a state as long as s, and room for all actions
---     AreConditions p low high s claim c
---                                which of the conditions hold: the act, the lower value and, of an act that is right, the upper value
---     first_fault c              the first that does not
 --     IsFirstFault p low high s claim fault
 --                                which condition fails first, if any: the act, the lower value, the upper value
---     HaveConditions, IsFault g ..
---                                of the process of a ground problem
-use Rattle.std.specs.Prelude.{◌≡◌, ◌↔◌, ℕ, ◌*◌, ◌<◌, ◌≤◌, ◌^◌, length, true, false, cond, Option, Some, None, Contains, IsTrue}
+--     IsFault g ..               of the process of a ground problem
+use Rattle.std.specs.Prelude.{◌≡◌, ℕ, ◌*◌, ◌<◌, ◌≤◌, ◌^◌, length, true, false, Option, Some, None, Contains}
 use Rattle.decision_process.specs.Process.{Process, at_starts}
 use Rattle.decision_process.specs.Balanced.{IsInterval}
 use Rattle.decision_process.specs.Following.{IsLowerFrom, IsUpperFrom}
 use Rattle.ground_model.specs.Packed.{State}
 use Rattle.ground_model.specs.Ground.{Ground}
 use Rattle.ground_model.specs.Steps.{ground_process, ground_starts}
-use Rattle.certificate_check.specs.declared.row_check.row.Scratch.{Scratch}
+use Rattle.certificate_check.specs.declared.row_check.scratch.Scratch.{Scratch}
 use Rattle.certificate_check.specs.declared.row_check.act.Act.{Act}
 use Rattle.certificate_check.specs.declared.row_check.act.Act.TheVariants.{GiveUp, Goal, Do}
 use Rattle.certificate_check.specs.declared.row_check.claim.Claim.{Claim}
-use Rattle.certificate_check.specs.declared.row_check.conditions.Conditions.{Conditions}
 use Rattle.certificate_check.specs.declared.row_check.fault.Fault.{Fault}
 use Rattle.certificate_check.specs.declared.row_check.fault.Fault.TheVariants as fault
 
@@ -46,25 +41,12 @@ module _ (p : Process State ℕ) where
     pub follows : IsUpperFrom p high s (action_of act) value
 
   module _ (low high : State → ℕ) (s : State) (claim : Claim) where
-    pub record AreConditions (c : Conditions) : Type 0 where
-      pub act : IsTrue c.act ↔ IsRight s claim.act
-      pub lower : IsTrue c.lower ↔ IsLowerFrom p low s claim.lower
-      pub upper : IsRight s claim.act → (IsTrue c.upper ↔ UpperFollows high s claim.act claim.upper)
-
     abbrev pub IsFirstFault : Option Fault → Type 0
     IsFirstFault None = IsRight s claim.act × IsLowerFrom p low s claim.lower × UpperFollows high s claim.act claim.upper
     IsFirstFault (Some fault.Act) = IsRight s claim.act → ⊥
     IsFirstFault (Some fault.Lower) = IsRight s claim.act × (IsLowerFrom p low s claim.lower → ⊥)
     IsFirstFault (Some fault.Upper) =
         IsRight s claim.act × IsLowerFrom p low s claim.lower × (UpperFollows high s claim.act claim.upper → ⊥)
-
-abbrev pub first_fault : Conditions → Option Fault
-first_fault c =
-    cond c.act (cond c.lower (cond c.upper None (Some fault.Upper)) (Some fault.Lower)) (Some fault.Act)
-
--- of a ground problem
-abbrev pub HaveConditions : Ground → (State → ℕ) → (State → ℕ) → State → Claim → Conditions → Type 0
-HaveConditions g low high s claim c = AreConditions (ground_process g) low high s claim c
 
 -- of a ground problem
 abbrev pub IsFault : Ground → (State → ℕ) → (State → ℕ) → State → Claim → Option Fault → Type 0
